@@ -1,2 +1,4 @@
 pub mod Own
 pub mod Core
+pub mod Queue
+pub mod Refuted

@@ -40,59 +40,64 @@ abbrev pub harmless : Words → Bool
 harmless no-words = true
 harmless (and-word w ws) = opt (literal-word w) false (λ x. not (same x name-rm || same x name-read))
 
-abbrev mutual
-  -- the flag: a $( ) may not stand here, inside a pipeline or behind a redirection that reads
-  pub calm-part : Bool → WordPart → Bool
-  calm-part i (literal q b) = true
-  calm-part i (parameter q x) = true
-  calm-part i (substitution q l) = not i && calm-list i l
+-- strict is the rule about redirections that read: without it orders differ, as `Without-the-rule` shows
+module _ (strict : Bool) where
+  abbrev mutual
+    -- the flag: a $( ) may not stand here, inside a pipeline or behind a redirection that reads
+    pub calm-part : Bool → WordPart → Bool
+    calm-part i (literal q b) = true
+    calm-part i (parameter q x) = true
+    calm-part i (substitution q l) = not i && calm-list i l
 
-  pub calm-word : Bool → Word → Bool
-  calm-word i no-parts = true
-  calm-word i (and-part p w) = calm-part i p && calm-word i w
+    pub calm-word : Bool → Word → Bool
+    calm-word i no-parts = true
+    calm-word i (and-part p w) = calm-part i p && calm-word i w
 
-  pub calm-words : Bool → Words → Bool
-  calm-words i no-words = true
-  calm-words i (and-word w ws) = calm-word i w && calm-words i ws
+    pub calm-words : Bool → Words → Bool
+    calm-words i no-words = true
+    calm-words i (and-word w ws) = calm-word i w && calm-words i ws
 
-  pub calm-assignments : Bool → Assignments → Bool
-  calm-assignments i no-assignments = true
-  calm-assignments i (assign x w ss) = calm-word i w && calm-assignments i ss
+    pub calm-assignments : Bool → Assignments → Bool
+    calm-assignments i no-assignments = true
+    calm-assignments i (assign x w ss) = calm-word i w && calm-assignments i ss
 
-  pub calm-redirects : Bool → Redirects → Bool
-  calm-redirects i no-redirects = true
-  calm-redirects i (redirect k w ts) = calm-word i w && calm-redirects (i || reads k) ts
+    pub calm-redirects : Bool → Redirects → Bool
+    calm-redirects i no-redirects = true
+    calm-redirects i (redirect k w ts) = calm-word i w && calm-redirects (i || (strict && reads k)) ts
 
-  pub calm-command : Bool → Command → Bool
-  calm-command i (simple ss ws ts) = (calm-assignments i ss && calm-words i ws) && (calm-redirects i ts && (not i || (reads-only ts && harmless ws)))
-  calm-command i (group l ts) = calm-list i l && (calm-redirects i ts && without-redirects ts)
-  calm-command i (subshell l ts) = calm-list i l && (calm-redirects i ts && without-redirects ts)
-  calm-command i (if a b e ts) = (calm-list i a && calm-list i b) && (calm-else i e && (calm-redirects i ts && without-redirects ts))
-  calm-command i (while a b ts) = calm-list i a && (calm-list i b && (calm-redirects i ts && without-redirects ts))
-  calm-command i (for x ws l ts) = calm-words i ws && (calm-list i l && (calm-redirects i ts && without-redirects ts))
-  calm-command i (case w is ts) = calm-word i w && (calm-arms i is && (calm-redirects i ts && without-redirects ts))
-  calm-command i (function x l) = false
+    pub calm-command : Bool → Command → Bool
+    calm-command i (simple ss ws ts) = (calm-assignments i ss && calm-words i ws) && (calm-redirects i ts && (not i || (reads-only ts && harmless ws)))
+    calm-command i (group l ts) = calm-list i l && (calm-redirects i ts && without-redirects ts)
+    calm-command i (subshell l ts) = calm-list i l && (calm-redirects i ts && without-redirects ts)
+    calm-command i (if a b e ts) = (calm-list i a && calm-list i b) && (calm-else i e && (calm-redirects i ts && without-redirects ts))
+    calm-command i (while a b ts) = calm-list i a && (calm-list i b && (calm-redirects i ts && without-redirects ts))
+    calm-command i (for x ws l ts) = calm-words i ws && (calm-list i l && (calm-redirects i ts && without-redirects ts))
+    calm-command i (case w is ts) = calm-word i w && (calm-arms i is && (calm-redirects i ts && without-redirects ts))
+    calm-command i (function x l) = false
 
-  pub calm-else : Bool → ElsePart → Bool
-  calm-else i no-else = true
-  calm-else i (else l) = calm-list i l
+    pub calm-else : Bool → ElsePart → Bool
+    calm-else i no-else = true
+    calm-else i (else l) = calm-list i l
 
-  pub calm-arms : Bool → Arms → Bool
-  calm-arms i no-arms = true
-  calm-arms i (arm w l is) = calm-word i w && (calm-list i l && calm-arms i is)
+    pub calm-arms : Bool → Arms → Bool
+    calm-arms i no-arms = true
+    calm-arms i (arm w l is) = calm-word i w && (calm-list i l && calm-arms i is)
 
-  pub calm-pipeline : Bool → Pipeline → Bool
-  calm-pipeline i (single c) = calm-command i c
-  calm-pipeline i (piped c p) = not i && (calm-command true c && calm-members p)
+    pub calm-pipeline : Bool → Pipeline → Bool
+    calm-pipeline i (single c) = calm-command i c
+    calm-pipeline i (piped c p) = not i && (calm-command true c && calm-members p)
 
-  pub calm-members : Pipeline → Bool
-  calm-members (single d) = calm-command true d
-  calm-members (piped d p) = calm-command true d && calm-members p
+    pub calm-members : Pipeline → Bool
+    calm-members (single d) = calm-command true d
+    calm-members (piped d p) = calm-command true d && calm-members p
 
-  pub calm-and-or : Bool → AndOr → Bool
-  calm-and-or i (first n p) = calm-pipeline i p
-  calm-and-or i (joined a b n p) = calm-and-or i a && calm-pipeline i p
+    pub calm-and-or : Bool → AndOr → Bool
+    calm-and-or i (first n p) = calm-pipeline i p
+    calm-and-or i (joined a b n p) = calm-and-or i a && calm-pipeline i p
 
-  pub calm-list : Bool → CommandList → Bool
-  calm-list i end = true
-  calm-list i (next a b l) = not b && (calm-and-or i a && calm-list i l)
+    pub calm-list : Bool → CommandList → Bool
+    calm-list i end = true
+    calm-list i (next a b l) = not b && (calm-and-or i a && calm-list i l)
+
+abbrev pub calm : CommandList → Bool
+calm l = calm-list true false l

@@ -5,3 +5,4 @@ pub mod Step
 pub mod Space
 pub mod Calm
 pub mod Statements
+pub mod Queue

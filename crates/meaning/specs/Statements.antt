@@ -10,7 +10,7 @@ use Rattle.syntax.specs.Tree.{CommandList}
 use Rattle.syntax.specs.Stage.{stage}
 use Rattle.meaning.specs.System.{Process, System, find-process, exit-status}
 use Rattle.meaning.specs.Step.{enabled, move, moves, initial}
-use Rattle.meaning.specs.Calm.{calm-list}
+use Rattle.meaning.specs.Calm.{calm, calm-list}
 
 -- a move of one process leaves every other process as it was: its variables, arguments, functions, handles, and what it
 -- is doing are its own
@@ -36,7 +36,11 @@ pub record Fair (s : System) (l : List ℕ) : Type 0 where
 -- for calm texts of a stage up to n, with an empty input, all orders that end put the same on the paper, with the same
 -- status
 abbrev pub Confluent : ℕ → Type 0
-Confluent n = (l : CommandList) (a b : List ℕ) (s t : System) → stage l ≤ n → calm-list false l ≡ true → moves (initial l [] []) a ≡ some s → moves (initial l [] []) b ≡ some t → s .processes ≡ [] → t .processes ≡ [] → (s .paper ≡ t .paper) × (exit-status (s .exited) 0 ≡ exit-status (t .exited) 0)
+Confluent n = (l : CommandList) (a b : List ℕ) (s t : System) → stage l ≤ n → calm l ≡ true → moves (initial l [] []) a ≡ some s → moves (initial l [] []) b ≡ some t → s .processes ≡ [] → t .processes ≡ [] → (s .paper ≡ t .paper) × (exit-status (s .exited) 0 ≡ exit-status (t .exited) 0)
+
+-- if `calm` did not have its rule about redirections that read, this would be false from stage 2 on
+abbrev pub Without-the-rule : Type 0
+Without-the-rule = (n : ℕ) → 2 ≤ n → ((l : CommandList) (a b : List ℕ) (s t : System) → stage l ≤ n → calm-list false false l ≡ true → moves (initial l [] []) a ≡ some s → moves (initial l [] []) b ≡ some t → s .processes ≡ [] → t .processes ≡ [] → s .paper ≡ t .paper) → ⊥
 
 -- of the core every order is fair, since there is one process
 abbrev pub Core-fair : Type 0
