@@ -21,7 +21,7 @@ is-some : {A : Type 0} → Option A → Bool
 is-some none = false
 is-some (some a) = true
 
-not-none : {A : Type 0} {a : A} → none ≡ some a → ⊥
+pub not-none : {A : Type 0} {a : A} → none ≡ some a → ⊥
 unfolding is-some
 not-none {A} e = subst (λ (o : Option A). T (is-some o)) (sym e) tt
 

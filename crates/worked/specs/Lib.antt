@@ -1,0 +1,2 @@
+-- Small texts and what they give.
+pub mod Examples
