@@ -25,6 +25,7 @@ worked-examples =
       no-second-reading = gives 800 _ _ _ (tree (codes "x='$(rm f)'; echo $x")) tt refl refl;
       empty-word = gives 800 _ _ _ (tree (codes "x=; echo a $x \"$x\" b$")) tt refl refl;
       no-match = gives 800 _ _ _ (tree (codes "x='f*'; echo $x; echo > fa; echo $x \"$x\"")) tt refl refl;
+      comment = gives 800 _ _ _ (tree (codes "echo a#b $#c #d")) tt refl refl;
       and-else = gives 800 _ _ _ (tree (codes "if false && true; then echo y; else echo n; fi")) tt refl refl;
       empty-else = gives 800 _ _ _ (tree (codes "if false; then true; else fi; echo $?")) tt refl refl;
       no-else = gives 800 _ _ _ (tree (codes "if false; then true; fi; echo $?")) tt refl refl;
@@ -40,6 +41,6 @@ worked-examples =
       called = gives 800 _ _ _ (tree (codes "g() { echo $2$#; return 3; }; g p q; echo $?")) tt refl refl;
       called-apart = gives 800 _ _ _ (tree (codes "g() { echo $2 $#; return 3; }; g p q; echo $?")) tt refl refl;
       selected = gives 800 _ _ _ (tree (codes "for x in ab cd; do case $x in when a*; echo yes1 ;; when *; echo no1 ;; esac; done")) tt refl refl;
-      apart = gives 800 _ _ _ (tree (codes "x=1; ( x=2; exit 4; ); echo $? $x")) tt refl refl;
+      apart = gives 800 _ _ _ (tree (codes "x=1; false; ( echo $?; x=2; exit 4; ); echo $? $x")) tt refl refl;
       waited = gives 800 _ _ _ (tree (codes "echo a > f & wait; cat f*")) tt refl refl;
     }

@@ -46,6 +46,7 @@ pub record Examples : Type 0 where
   pub no-second-reading : Gives (codes "x='$(rm f)'; echo $x") (lines (codes "$(rm f)" ∷ [])) 0
   pub empty-word : Gives (codes "x=; echo a $x \"$x\" b$") (lines (codes "a  b$" ∷ [])) 0
   pub no-match : Gives (codes "x='f*'; echo $x; echo > fa; echo $x \"$x\"") (lines (codes "f*" ∷ codes "fa f*" ∷ [])) 0
+  pub comment : Gives (codes "echo a#b $#c #d") (lines (codes "a#b 0c" ∷ [])) 0
   -- control
   pub and-else : Gives (codes "if false && true; then echo y; else echo n; fi") (lines (codes "n" ∷ [])) 0
   pub empty-else : Gives (codes "if false; then true; else fi; echo $?") (lines (codes "1" ∷ [])) 0
@@ -68,5 +69,5 @@ pub record Examples : Type 0 where
   -- for, case, patterns
   pub selected : Gives (codes "for x in ab cd; do case $x in when a*; echo yes1 ;; when *; echo no1 ;; esac; done") (lines (codes "yes1" ∷ codes "no1" ∷ [])) 0
   -- apart and in the background
-  pub apart : Gives (codes "x=1; ( x=2; exit 4; ); echo $? $x") (lines (codes "4 1" ∷ [])) 0
+  pub apart : Gives (codes "x=1; false; ( echo $?; x=2; exit 4; ); echo $? $x") (lines (codes "1" ∷ codes "4 1" ∷ [])) 0
   pub waited : Gives (codes "echo a > f & wait; cat f*") (lines (codes "a" ∷ [])) 0
