@@ -25,7 +25,7 @@ worked-examples =
       no-second-reading = gives 800 _ _ _ (tree (codes "x='$(rm f)'; echo $x")) tt refl refl;
       empty-word = gives 800 _ _ _ (tree (codes "x=; echo a $x \"$x\" b$")) tt refl refl;
       no-match = gives 800 _ _ _ (tree (codes "x='f*'; echo $x; echo > fa; echo $x \"$x\"")) tt refl refl;
-      comment = gives 800 _ _ _ (tree (codes "echo a#b $#c #d")) tt refl refl;
+      comment = gives 800 _ _ _ (tree (codes "echo a#b $#\"c\"#d #e")) tt refl refl;
       and-else = gives 800 _ _ _ (tree (codes "if false && true; then echo y; else echo n; fi")) tt refl refl;
       empty-else = gives 800 _ _ _ (tree (codes "if false; then true; else fi; echo $?")) tt refl refl;
       no-else = gives 800 _ _ _ (tree (codes "if false; then true; fi; echo $?")) tt refl refl;

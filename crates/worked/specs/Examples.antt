@@ -46,7 +46,7 @@ pub record Examples : Type 0 where
   pub no-second-reading : Gives (codes "x='$(rm f)'; echo $x") (lines (codes "$(rm f)" ∷ [])) 0
   pub empty-word : Gives (codes "x=; echo a $x \"$x\" b$") (lines (codes "a  b$" ∷ [])) 0
   pub no-match : Gives (codes "x='f*'; echo $x; echo > fa; echo $x \"$x\"") (lines (codes "f*" ∷ codes "fa f*" ∷ [])) 0
-  pub comment : Gives (codes "echo a#b $#c #d") (lines (codes "a#b 0c" ∷ [])) 0
+  pub comment : Gives (codes "echo a#b $#\"c\"#d #e") (lines (codes "a#b 0c#d" ∷ [])) 0
   -- control
   pub and-else : Gives (codes "if false && true; then echo y; else echo n; fi") (lines (codes "n" ∷ [])) 0
   pub empty-else : Gives (codes "if false; then true; else fi; echo $?") (lines (codes "1" ∷ [])) 0
