@@ -1,0 +1,10 @@
+pub mod Lists
+pub mod Chain
+pub mod Renaming
+pub mod Simulation
+pub mod Restrictions
+pub mod Discipline
+pub mod Pipeline
+pub mod Path
+pub mod Spawn
+pub mod Main
