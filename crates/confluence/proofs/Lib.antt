@@ -7,4 +7,8 @@ pub mod Discipline
 pub mod Pipeline
 pub mod Path
 pub mod Spawn
-pub mod Main
+pub mod Root
+pub mod Stack
+pub mod Substitution
+pub mod States
+pub mod Confluence
