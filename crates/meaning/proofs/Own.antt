@@ -14,14 +14,14 @@ use Rattle.meaning.specs.Words.{first-bytes, close-word}
 use Rattle.meaning.specs.Step.{with-status, with-variables, StepResult, continues, exits, goes-to, spawn, new-pipe, spawn-pipeline, start-cat, start-seq, remove-files, run-builtin, invoke, print-byte, read-or, cat-next, grep-line, grep-last, step-builtin, apply-redirect, step-assignments, step-arms, step-for, expanded, next-word, step-expansion, step-redirects, redirected, step-command, step-pipeline, step-and-or, step-list, step-else, step-status, step-unwind, step-wait, step-capture, step-control, step, settle, move}
 use Rattle.meaning.specs.Statements.{Isolated}
 
-abbrev Kept : List Process → List Process → Type 0
+abbrev pub Kept : List Process → List Process → Type 0
 Kept ws vs = (q : ℕ) (x : Process) → find-process ws q ≡ some x → find-process vs q ≡ some x
 
-abbrev Keeps : System → Process → StepResult → Type 0
+abbrev pub Keeps : System → Process → StepResult → Type 0
 Keeps s w (continues v t) = (v .pid ≡ w .pid) × Kept (s .processes) (t .processes)
 Keeps s w (exits n t) = Kept (s .processes) (t .processes)
 
-abbrev Keeps? : System → Process → Option StepResult → Type 0
+abbrev pub Keeps? : System → Process → Option StepResult → Type 0
 Keeps? s w none = Unit {0}
 Keeps? s w (some o) = Keeps s w o
 
@@ -316,7 +316,7 @@ wait-keeps : (s : System) (w : Process) (n : ℕ) (ps : List ℕ) → Keeps? s w
 wait-keeps s w n [] = search walk
 wait-keeps s w n (p ∷ ps) = opt-keeps? s w (exit-status (s .exited) p) none _ tt (λ m. wait-keeps s w m ps)
 
-step-keeps : (s : System) (w : Process) (c : Control) → Keeps? s w (step-control s w c)
+pub step-keeps : (s : System) (w : Process) (c : Control) → Keeps? s w (step-control s w c)
 step-keeps s w (at-list l) = list-keeps s w l
 step-keeps s w (at-and-or a) = and-or-keeps s w a
 step-keeps s w (at-pipeline n p) = pipeline-keeps s w n p
@@ -330,7 +330,7 @@ step-keeps s w (at-wait ps) = wait-keeps s w 0 ps
 step-keeps s w (at-capture d bs q x y) = read-keeps s w d _ _ (search walk) (search walk)
 
 -- another's place in the list
-other-left : (ws : List Process) (n q : ℕ) → (q ≡ n → ⊥) → find-process (without ws n) q ≡ find-process ws q
+pub other-left : (ws : List Process) (n q : ℕ) → (q ≡ n → ⊥) → find-process (without ws n) q ≡ find-process ws q
 other-left [] n q d = refl
 other-left (w ∷ ws) n q d = by (eqb (w .pid) n) refl (other-left ws n q d)
   where
@@ -338,7 +338,7 @@ other-left (w ∷ ws) n q d = by (eqb (w .pid) n) refl (other-left ws n q d)
     by true e h = grind arith
     by false e h = rw h
 
-other-there : (ws : List Process) (n q : ℕ) (v : Process) → (q ≡ n → ⊥) → v .pid ≡ n → find-process (replace ws n v) q ≡ find-process ws q
+pub other-there : (ws : List Process) (n q : ℕ) (v : Process) → (q ≡ n → ⊥) → v .pid ≡ n → find-process (replace ws n v) q ≡ find-process ws q
 other-there [] n q v d p = refl
 other-there (w ∷ ws) n q v d p = by (eqb (w .pid) n) refl (other-there ws n q v d p)
   where

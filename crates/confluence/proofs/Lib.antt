@@ -1,0 +1,14 @@
+pub mod Lists
+pub mod Chain
+pub mod Renaming
+pub mod Simulation
+pub mod Restrictions
+pub mod Discipline
+pub mod Pipeline
+pub mod Path
+pub mod Spawn
+pub mod Root
+pub mod Stack
+pub mod Substitution
+pub mod States
+pub mod Confluence

@@ -1,0 +1,2 @@
+-- What is proved of the orders of calm texts.
+pub mod Statements
