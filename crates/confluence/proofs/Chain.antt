@@ -7,27 +7,32 @@ use mathlib.Core.Option.{Option, some, none}
 use Prim.Native.Nat.{ℕ, zero, suc}
 use native.Mathlib.Omega.{arith}
 
--- what a worker in a row does next: something of its own; read (a byte, or that there's no more); write; be gone
+-- what a process in a row does next: something of its own; read (a byte, or that there's no more); write; be gone
 pub data Action (X : Type 0) : Type 0 where
   silent : X → Action X
   reading : (Option ℕ → X) → Action X
   writing : ℕ → X → Action X
   finished : ℕ → Action X
+
 pub data Event : Type 0 where
   e-silent : Event
   e-read : Option ℕ → Event
   e-write : ℕ → Event
+
 abbrev pub Prefix : {A : Type 0} → List A → List A → Type 0
 Prefix [] ys = Unit {0}
 Prefix (x ∷ xs) [] = ⊥
 Prefix (x ∷ xs) (y ∷ ys) = (x ≡ y) × Prefix xs ys
+
 abbrev pub Comparable : {A : Type 0} → List A → List A → Type 0
 Comparable xs ys = Prefix xs ys ⊎ Prefix ys xs
+
 abbrev pub inputs : List Event → List (Option ℕ)
 inputs [] = []
 inputs (e-silent ∷ es) = inputs es
 inputs (e-read o ∷ es) = o ∷ inputs es
 inputs (e-write b ∷ es) = inputs es
+
 abbrev pub outputs : List Event → List ℕ
 outputs [] = []
 outputs (e-silent ∷ es) = outputs es
@@ -39,28 +44,36 @@ module _ (X : Type 0) (step : X → Action X) where
   Fires x e-silent u = step x ≡ silent u
   Fires x (e-read o) u = (f : Option ℕ → X) × (step x ≡ reading f) × (f o ≡ u)
   Fires x (e-write b) u = step x ≡ writing b u
+
   abbrev pub Trace : X → List Event → X → Type 0
   Trace x [] y = x ≡ y
   Trace x (e ∷ es) y = (u : X) × Fires x e u × Trace u es y
+
   abbrev tag : Action X → ℕ
   tag (silent u) = 0
   tag (reading f) = 1
   tag (writing b u) = 2
   tag (finished n) = 3
+
   -- one kind of step at a time
   one-action : {A : Type 0} (x : X) (p q : Action X) → step x ≡ p → step x ≡ q → (tag p ≡ tag q → ⊥) → A
   one-action x p q e f d = absurd (d (ap tag (sym e ∙ f)))
+
   comparable-cons : {A : Type 0} (a b : A) (xs ys : List A) → a ≡ b → Comparable xs ys → Comparable (a ∷ xs) (b ∷ ys)
   comparable-cons a b xs ys e (inl h) = inl (e, h)
   comparable-cons a b xs ys e (inr h) = inr (sym e, h)
+
   comparable-tail : {A : Type 0} (a b : A) (xs ys : List A) → Comparable (a ∷ xs) (b ∷ ys) → (a ≡ b) × Comparable xs ys
   comparable-tail a b xs ys (inl h) = (h .0, inl (h .1))
   comparable-tail a b xs ys (inr h) = (sym (h .0), inr (h .1))
+
   -- the same taken, the same done, ts far ts both go; one that is gone has gone farthest
   abbrev pub Together : List Event → List Event → X → X → Type 0
   Together es fs y z = Comparable es fs × ((n : ℕ) → step y ≡ finished n → Prefix fs es) × ((n m : ℕ) → step y ≡ finished n → step z ≡ finished m → n ≡ m)
+
   together-cons : (e f : Event) (es fs : List Event) (y z : X) → e ≡ f → Together es fs y z → Together (e ∷ es) (f ∷ fs) y z
   together-cons e f es fs y z p h = (comparable-cons e f es fs p (h .0), λ n g. (sym p, h .1 n g), h .2)
+
   pub deterministic : (es fs : List Event) (x y z : X) → Trace x es y → Trace x fs z → Comparable (inputs es) (inputs fs) → Together es fs y z
   deterministic [] [] x y z r q c = (inl tt, λ n g. tt, λ n m g h. cc (ap step r, ap step q, g, h))
   deterministic [] (e-silent ∷ fs) x y z r q c = (inl tt, λ n g. one-action x (finished n) _ (ap step r ∙ g) (q .1) (λ e. absurd (omega arith)), λ n m g h. one-action x (finished n) _ (ap step r ∙ g) (q .1) (λ e. absurd (omega arith)))
@@ -84,6 +97,7 @@ module _ (X : Type 0) (step : X → Action X) where
       let e : q .0 ≡ r .0 = cc (r .1, q .1) in
       let f : a ≡ b = cc (r .1, q .1) in
       together-cons (e-write a) (e-write b) es fs y z (ap e-write f) (deterministic es fs (r .0) y z (r .2) (subst (λ u. Trace u fs z) e (q .2)) c)
+
   -- what was taken stands on the tape, of which it is known whether it is whole
   abbrev pub Read-from : List (Option ℕ) → List ℕ → Bool → Type 0
   Read-from [] ts c = Unit {0}
@@ -91,8 +105,10 @@ module _ (X : Type 0) (step : X → Action X) where
   Read-from (some b ∷ is) (a ∷ ts) c = (b ≡ a) × Read-from is ts c
   Read-from (none ∷ is) [] c = (c ≡ true) × Read-from is [] c
   Read-from (none ∷ is) (a ∷ ts) c = ⊥
+
   abbrev pub Agree : List ℕ → Bool → List ℕ → Bool → Type 0
   Agree ts c bs d = Comparable ts bs × (c ≡ true → Prefix bs ts) × (d ≡ true → Prefix ts bs)
+
   read-comparable : (is js : List (Option ℕ)) (ts bs : List ℕ) (c d : Bool) → Read-from is ts c → Read-from js bs d → Agree ts c bs d → Comparable is js
   read-comparable [] js ts bs c d h k g = inl tt
   read-comparable (i ∷ is) [] ts bs c d h k g = inr tt
@@ -110,6 +126,7 @@ module _ (X : Type 0) (step : X → Action X) where
   read-comparable (none ∷ is) (none ∷ js) [] [] c d h k g = comparable-cons none none is js refl (read-comparable is js [] [] c d (h .1) (k .1) g)
   read-comparable (none ∷ is) (none ∷ js) [] (b ∷ bs) c d h k g = absurd k
   read-comparable (none ∷ is) (none ∷ js) (a ∷ ts) bs c d h k g = absurd h
+
   outputs-prefix : (es fs : List Event) → Prefix es fs → Prefix (outputs es) (outputs fs)
   outputs-prefix [] fs h = tt
   outputs-prefix (e ∷ es) [] h = absurd h
@@ -119,21 +136,26 @@ module _ (X : Type 0) (step : X → Action X) where
       by e-silent k = k
       by (e-read o) k = k
       by (e-write b) k = (refl, k)
+
   prefix-both : {A : Type 0} (xs ys : List A) → Prefix xs ys → Prefix ys xs → xs ≡ ys
   prefix-both [] [] h k = refl
   prefix-both [] (y ∷ ys) h k = absurd k
   prefix-both (x ∷ xs) [] h k = absurd h
   prefix-both (x ∷ xs) (y ∷ ys) h k = λ i. h .0 i ∷ prefix-both xs ys (h .1) (k .1) i
+
   comparable-sym : (xs ys : List (Option ℕ)) → Comparable xs ys → Comparable ys xs
   comparable-sym xs ys (inl h) = inr h
   comparable-sym xs ys (inr h) = inl h
+
   outputs-comparable : (es fs : List Event) → Comparable es fs → Comparable (outputs es) (outputs fs)
   outputs-comparable es fs (inl h) = inl (outputs-prefix es fs h)
   outputs-comparable es fs (inr h) = inr (outputs-prefix fs es h)
+
   -- a row: each one's order, from what the one before has put out (whole, if that one is gone by itself); the last is gone
   abbrev pub Row : X → List X → List ℕ → Bool → List ℕ → ℕ → Type 0
   Row x [] ts c o n = (es : List Event) × (y : X) × Trace x es y × Read-from (inputs es) ts c × (step y ≡ finished n) × (outputs es ≡ o)
   Row x (x′ ∷ xs) ts c o n = (es : List Event) × (y : X) × (d : Bool) × Trace x es y × Read-from (inputs es) ts c × (d ≡ true → (m : ℕ) × (step y ≡ finished m)) × Row x′ xs (outputs es) d o n
+
   pub same-output : (xs : List X) (x : X) (ts bs : List ℕ) (c d : Bool) (o o′ : List ℕ) (n n′ : ℕ) → Row x xs ts c o n → Row x xs bs d o′ n′ → Agree ts c bs d → (o ≡ o′) × (n ≡ n′)
   same-output [] x ts bs c d o o′ n n′ h k g =
       let p = read-comparable (inputs (h .0)) (inputs (k .0)) ts bs c d (h .3) (k .3) g in

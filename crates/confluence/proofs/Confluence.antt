@@ -15,7 +15,7 @@ use Rattle.meaning.specs.Words.{with-parts}
 use Rattle.meaning.specs.Step.{StepResult, step-pipeline, step-control, step, settle, move, moves, initial}
 use Rattle.meaning.proofs.Own.{inside}
 use Rattle.meaning.proofs.Core.{no-some, split-moves}
-use Rattle.confluence.specs.Statements.{Confluent-named}
+use Rattle.meaning.specs.Statements.{Confluent}
 use Rattle.confluence.proofs.Renaming.{l-list, l-nil}
 use Rattle.confluence.proofs.Simulation.{Local, Alike}
 use Rattle.confluence.proofs.Restrictions.{Ok-list, ok-list}
@@ -53,6 +53,7 @@ module _ (F : List ℕ → ℕ → Type 0) where
   -- a move leads to a state from which less is to come, or to the end
   abbrev Progress : System → List Lv → Local → List ℕ → Type 0
   Progress t vs y base = ((us : List Lv) × (z : Local) × (b : List ℕ) × State t us z b × (Ends F (levels us) z b → Ends F (levels vs) y base)) ⊎ ((t .processes ≡ []) × ((n : ℕ) × (exit-status (t .exited) 0 ≡ some n) × (F (t .paper) n → Ends F (levels vs) y base)))
+
   -- the root exits
   root-over : (s t : System) (vs : List Lv) (y : Local) (base : List ℕ) (st : Running s vs y base) → Over (st .r) (st .k) s y t → Out1 (st .r) (st .k) (st .alone .table) s t → Progress t vs y base
   root-over s t [] y base st ov o1 = inr (empty (t .processes) none1, (ov .0, subst (λ z. exit-status (t .exited) z ≡ some (ov .0)) (st .stack .1) (ov .4), λ f. ends-last F y base (ov .0) (ov .1) (subst (λ o. F o (ov .0)) (subst (λ z. sunk z t ≡ base) (st .stack .0) (ov .5 ∙ st .sum)) f)))
@@ -65,17 +66,20 @@ module _ (F : List ℕ → ℕ → Type 0) where
           by (inr (inl e)) = ap (λ z. find-process (t .processes) z) e ∙ ov .3
           by (inr (inr e)) = o1 .finds q (λ z. absurd (omega (arith, z, e))) ∙ st .alone .above q e
   root-over s t (v ∷ vs) y base st ov o1 = inl (vs, printed (v .lev .y) (t .files) (v .lev .q) (v .lev .x) (v .lev .z) (sunk (st .k) s), v .lev .base, inr (inr (running-over s t v vs y base st ov o1)), λ e. ends-over F (v .lev) (levels vs) y base (ov .0) (ov .1) (subst (λ fs. Ends F (levels vs) (printed (v .lev .y) fs (v .lev .q) (v .lev .x) (v .lev .z) base) (v .lev .base)) (ov .2) (subst (λ o. Ends F (levels vs) (printed (v .lev .y) (t .files) (v .lev .q) (v .lev .x) (v .lev .z) o) (v .lev .base)) (st .sum) e)))
+
   root-move : (s t : System) (vs : List Lv) (y : Local) (base : List ℕ) (st : Running s vs y base) (a : StepResult) → step s (st .alone .w) ≡ some a → settle (st .alone .w) a ≡ t → Progress t vs y base
   root-move s t vs y base st a e se = by (which (st .b1) (st .alone .w .control) (st .alone .w .frames) (st .alone .w .stdin) (st .alone .w .stdout) (st .alone .fit .place))
     where
       w : Process
       w = st .alone .w
+
       own : Not-pipeline 0 (st .b1) (w .control) → Progress (settle w a) vs y base
       own np = go (root-step (st .r) (st .k) (st .b1) s y (st .alone) a np e)
         where
           go : (After (st .r) (st .k) (st .b1) (st .alone .table) s y (settle w a) ⊎ Over (st .r) (st .k) s y (settle w a)) × Out1 (st .r) (st .k) (st .alone .table) s (settle w a) → Progress (settle w a) vs y base
           go (inl af, o1) = inl (vs, af .0, base ++ af .3 .0, inl (running-after s (settle w a) vs y base st af o1), λ h. ends-step F (levels vs) y (af .0) base (af .3 .0) (af .3 .2) h)
           go (inr ov, o1) = root-over s (settle w a) vs y base st ov o1
+
       by : ((m : Bool) × (d : Command) × (p : Pipeline) × (w .control ≡ at-pipeline m (piped d p))) ⊎ (((x : Expansion) × (z : Purpose) × (q : Bool) × (l : CommandList) × (rest : Word) × (w .control ≡ at-words x z) × (x .parts ≡ and-part (substitution q l) rest)) ⊎ Not-pipeline 0 (st .b1) (w .control)) → Progress t vs y base
       by (inl z) =
           let f : step s w ≡ some (step-pipeline s w (z .0) (piped (z .1) (z .2))) = ap (λ d. step-control s w d) (z .3) in
@@ -87,6 +91,7 @@ module _ (F : List ℕ → ℕ → Type 0) where
           let g : run-sys s w (z .2) (z .3) (with-parts (z .0) (z .4)) (z .1) ≡ t = ap (settle w) (inside (sym f ∙ e)) ∙ se in
           inl (v ∷ vs, child y (z .3), [], inl (subst (λ u. Running u (v ∷ vs) (child y (z .3)) []) g (running-substitution s vs y base st (z .0) (z .1) (z .2) (z .3) (z .4) (z .5) (z .6))), λ h. ends-substitution F (levels vs) y base (z .2) (z .3) (with-parts (z .0) (z .4)) (z .1) (substitution-kind s vs y base st (z .0) (z .1) (z .2) (z .3) (z .4) (z .5) (z .6)) (subst (λ b. Ends F (record { y = y; base = b; q = z .2; x = with-parts (z .0) (z .4); z = z .1 } ∷ levels vs) (child y (z .3)) []) (st .sum) h))
       by (inr (inr np)) = subst (λ u. Progress u vs y base) se (own np)
+
   state-move : (s t : System) (vs : List Lv) (y : Local) (base : List ℕ) (q : ℕ) → State s vs y base → move s q ≡ some t → Progress t vs y base
   state-move s t vs y base q (inl st) mv = by (order q (st .r))
     where
@@ -100,8 +105,10 @@ module _ (F : List ℕ → ℕ → Type 0) where
       high (inl f) e = absurd (no-move s t q (bz .gap q e f) mv)
       high (inr (inl f)) e = inl (vs, y, base, inr (inl (busy-member s t vs y base q bz (omega (arith, f)) mv)), λ h. h)
       high (inr (inr f)) e = inl (vs, y, base, inr (inl (busy-member s t vs y base q bz (omega (arith, f)) mv)), λ h. h)
+
       back : Resumed t vs y base (bz .m) (bz .c) (bz .p) → Progress t vs y base
       back z = inl (vs, resume y (bz .m) (z .0), base ++ z .1, inl (z .2), λ h. ends-step F (levels vs) y (resume y (bz .m) (z .0)) base (z .1) (λ k r n fs p. subst (λ d. Leads (Path k) y (kind-of y d) (z .1 ++ r) n fs) (sym (bz .waits .at-pipe)) (z .1, r, z .0, refl, z .3, p)) h)
+
       by : (q < bz .r) ⊎ ((q ≡ bz .r) ⊎ (bz .r < q)) → Progress t vs y base
       by (inl e) = inl (vs, y, base, inr (inl (busy-read s t vs y base q bz e mv)), λ h. h)
       by (inr (inl e)) = back (busy-end s t vs y base bz (subst (λ z. move s z ≡ some t) e mv))
@@ -111,25 +118,30 @@ module _ (F : List ℕ → ℕ → Type 0) where
       go : Draining t vs y base ⊎ Running t vs (printed (dn .v .lev .y) (s .files) (dn .v .lev .q) (dn .v .lev .x) (dn .v .lev .z) (dn .total)) (dn .v .lev .base) → Progress t vs y base
       go (inl d) = inl (vs, y, base, inr (inr d), λ h. h)
       go (inr r) = inl (vs, printed (dn .v .lev .y) (s .files) (dn .v .lev .q) (dn .v .lev .x) (dn .v .lev .z) (dn .total), dn .v .lev .base, inl r, λ h. subst (λ z. Ends F (levels vs) z base) (sym (dn .resumes)) (subst (λ b. Ends F (levels vs) (printed (dn .v .lev .y) (s .files) (dn .v .lev .q) (dn .v .lev .x) (dn .v .lev .z) (dn .total)) b) (sym (dn .before)) h))
+
       by : (q < dn .v .pid) ⊎ ((q ≡ dn .v .pid) ⊎ (dn .v .pid < q)) → Progress t vs y base
       by (inl e) = inl (vs, y, base, inr (inr (drain-below s t vs y base q dn e mv)), λ h. h)
       by (inr (inl e)) = go (drain-step s t vs y base dn (subst (λ z. move s z ≡ some t) e mv))
       by (inr (inr e)) = absurd (no-move s t q (dn .drain .above q e) mv)
+
   -- somebody is there
   alive : (s : System) (vs : List Lv) (y : Local) (base : List ℕ) → State s vs y base → s .processes ≡ [] → ⊥
   alive s vs y base (inl st) e = no-some (sym (ap (λ ws. find-process ws (st .r)) e) ∙ st .alone .found)
   alive s vs y base (inr (inl bz)) e = no-some (sym (ap (λ ws. find-process ws (bz .r)) e) ∙ bz .phase .rooted)
   alive s vs y base (inr (inr dn)) e = no-some (sym (ap (λ ws. find-process ws (dn .v .pid)) e) ∙ dn .drain .lvl .found)
+
   -- nobody is there: no move
   over : (ms : List ℕ) (t u : System) → t .processes ≡ [] → moves t ms ≡ some u → t ≡ u
   over [] t u e f = inside f
   over (q ∷ ms) t u e f = let r = split-moves t u q ms f in absurd (no-move t (r .0) q (ap (λ ws. find-process ws q) e) (r .1))
+
   pub whole : (ms : List ℕ) (s t : System) (vs : List Lv) (y : Local) (base : List ℕ) → State s vs y base → moves s ms ≡ some t → t .processes ≡ [] → ((n : ℕ) → exit-status (t .exited) 0 ≡ some n → F (t .paper) n) → Ends F (levels vs) y base
   whole [] s t vs y base st e f g = absurd (alive s vs y base st (ap (λ (z : System). z .processes) (inside e) ∙ f))
   whole (q ∷ ms) s t vs y base st e f g = by (state-move s (sp .0) vs y base q st (sp .1)) (λ us z b st2. whole ms (sp .0) t us z b st2 (sp .2) f g)
     where
       sp : (r : System) × (move s q ≡ some r) × (moves r ms ≡ some t)
       sp = split-moves s t q ms e
+
       by : Progress (sp .0) vs y base → ((us : List Lv) (z : Local) (b : List ℕ) → State (sp .0) us z b → Ends F (levels us) z b) → Ends F (levels vs) y base
       by (inl p) ih = p .4 (ih (p .0) (p .1) (p .2) (p .3))
       by (inr p) ih =
@@ -139,26 +151,31 @@ module _ (F : List ℕ → ℕ → Type 0) where
 -- the beginning
 abbrev root0 : CommandList → Local
 root0 l = record { system = initial l [] []; process = record { pid = 0; control = at-list l; frames = []; stdin = 0; stdout = 1; variables = []; functions = []; arguments = []; status = 0; jobs = [] } }
+
 alone0 : (l : CommandList) → Ok-list false l → Alone 0 on-paper 1 (initial l [] []) (root0 l)
 alone0 l ok = record { w = root0 l .process; found = refl; above = λ q h. ap (λ z. pick z (some (root0 l .process)) none) (eqb-no 0 q (λ e. absurd (omega (arith, e, h)))); once = (refl, tt); fit = record { place = (ok, (tt, refl, refl)); functions = refl; jobs = refl }; table = 0 ∷ 1 ∷ []; simulates = record { like = record { control = l-list; frames = l-nil; stdin = refl; stdout = refl; variables = refl; functions = refl; arguments = refl; status = refl; jobs = refl }; agrees = record { len = refl; within = λ a i r. wi a i (two-mine 0 1 a i r); once = λ a b i r s. on a b i (two-mine 0 1 a i r) (two-mine 0 1 b i s); alike = λ a i r. al a i (two-mine 0 1 a i r); files = refl } }; in0 = refl; out0 = refl; input = refl; fresh = λ q h. refl; live = refl; next0 = omega arith; low = tt; sinks = tt }
   where
     wi : (a i : ℕ) → ((a ≡ 0) × (i ≡ 0)) ⊎ ((a ≡ 1) × (i ≡ 1)) → i < 2
     wi a i (inl z) = omega (arith, z .1)
     wi a i (inr z) = omega (arith, z .1)
+
     on : (a b i : ℕ) → ((a ≡ 0) × (i ≡ 0)) ⊎ ((a ≡ 1) × (i ≡ 1)) → ((b ≡ 0) × (i ≡ 0)) ⊎ ((b ≡ 1) × (i ≡ 1)) → a ≡ b
     on a b i (inl z) (inl u) = z .0 ∙ sym (u .0)
     on a b i (inl z) (inr u) = absurd (omega (arith, z .1, u .1))
     on a b i (inr z) (inl u) = absurd (omega (arith, z .1, u .1))
     on a b i (inr z) (inr u) = z .0 ∙ sym (u .0)
+
     al : (a i : ℕ) → ((a ≡ 0) × (i ≡ 0)) ⊎ ((a ≡ 1) × (i ≡ 1)) → Alike host-input host-paper (nth (host-input ∷ host-paper ∷ []) i) (nth (host-input ∷ host-paper ∷ []) a)
     al a i (inl z) = subst (λ n. Alike host-input host-paper (nth (host-input ∷ host-paper ∷ []) i) (nth (host-input ∷ host-paper ∷ []) n)) (sym (z .0)) (subst (λ n. Alike host-input host-paper (nth (host-input ∷ host-paper ∷ []) n) (some host-input)) (sym (z .1)) refl)
     al a i (inr z) = subst (λ n. Alike host-input host-paper (nth (host-input ∷ host-paper ∷ []) i) (nth (host-input ∷ host-paper ∷ []) n)) (sym (z .0)) (subst (λ n. Alike host-input host-paper (nth (host-input ∷ host-paper ∷ []) n) (some host-paper)) (sym (z .1)) refl)
+
 -- an order that ends comes to what the path of the first process comes to
 ends-with : (l : CommandList) (a : List ℕ) (s : System) → Ok-list false l → moves (initial l [] []) a ≡ some s → s .processes ≡ [] → Ends (λ o n. (s .paper ≡ o) × (exit-status (s .exited) 0 ≡ some n)) [] (root0 l) []
 ends-with l a s ok e f = whole (λ o n. (s .paper ≡ o) × (exit-status (s .exited) 0 ≡ some n)) a (initial l [] []) s [] (root0 l) [] (inl (record { r = 0; k = on-paper; b1 = 1; alone = alone0 l ok; stack = (refl, refl); apart = tt; known = λ q w g h. absurd (omega (arith, h)); sum = refl })) e f (λ n g. (refl, g))
-pub confluent-named : Confluent-named 4
-confluent-named l a b s t g c m p q y z =
-    let ok = ok-list false l g c m in
+
+pub confluent : Confluent 4
+confluent l a b s t g c p q y z =
+    let ok = ok-list false l g c in
     let u = ends-with l a s ok p y in
     let v = ends-with l b t ok q z in
     let e = one-path (u .0) (v .0) (root0 l) (u .1) (v .1) (u .2) (v .2) (u .3) (v .3) (u .4) (v .4) in

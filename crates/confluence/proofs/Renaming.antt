@@ -1,4 +1,4 @@
--- Two workers that differ only in the numbers of what they have open take the same turns.
+-- Two processes that differ only in the numbers of what they have open take the same steps.
 use mathlib.Core.Path.{_≡_, refl, sym, _∙_, ap, subst}
 use mathlib.Core.Logic.{_⊎_, inl, inr}
 use mathlib.Core.Bool.{Bool, true, false, _&&_, _||_, not}
@@ -22,10 +22,12 @@ Private (pipe-write p) = ⊥
 Private host-input = ⊥
 Private host-paper = ⊥
 Private (here-text bs) = Unit {0}
+
 abbrev pub Foreground : CommandList → Type 0
 Foreground end = Unit {0}
 Foreground (next a false l) = Unit {0}
 Foreground (next a true l) = ⊥
+
 abbrev pub In-process : Command → Type 0
 In-process (simple ss ws ts) = Unit {0}
 In-process (group l ts) = Unit {0}
@@ -35,11 +37,13 @@ In-process (while a b ts) = Unit {0}
 In-process (for x ws l ts) = Unit {0}
 In-process (case v is ts) = Unit {0}
 In-process (function x l) = ⊥
+
 abbrev pub No-substitution : Word → Type 0
 No-substitution no-parts = Unit {0}
 No-substitution (and-part (literal q bs) r) = Unit {0}
 No-substitution (and-part (parameter q n) r) = Unit {0}
 No-substitution (and-part (substitution q l) r) = ⊥
+
 abbrev pub Sequential : Control → Type 0
 Sequential (at-list l) = Foreground l
 Sequential (at-and-or a) = Unit {0}
@@ -54,6 +58,7 @@ Sequential (at-unwind t n) = Unit {0}
 Sequential (at-wait []) = Unit {0}
 Sequential (at-wait (q ∷ ps)) = ⊥
 Sequential (at-capture d bs q a y) = Unit {0}
+
 module _ (ρ : Bool → ℕ → ℕ → Type 0) where
   pub data Like-builtin (z : Bool) : Builtin → Builtin → Type 0 where
     l-done : {n : ℕ} → Like-builtin z (b-done n) (b-done n)
@@ -66,6 +71,7 @@ module _ (ρ : Bool → ℕ → ℕ → Type 0) where
     l-seq : {a b : ℕ} → Like-builtin z (b-seq a b) (b-seq a b)
     l-yes : {l : List ℕ} → Like-builtin z (b-yes l) (b-yes l)
     l-read : {x l : List ℕ} → Like-builtin z (b-read x l) (b-read x l)
+
   pub data Like-control (z : Bool) : Control → Control → Type 0 where
     l-list : {l : CommandList} → Like-control z (at-list l) (at-list l)
     l-and-or : {a : AndOr} → Like-control z (at-and-or a) (at-and-or a)
@@ -78,6 +84,7 @@ module _ (ρ : Bool → ℕ → ℕ → Type 0) where
     l-unwind : {t : Unwind} {n : ℕ} → Like-control z (at-unwind t n) (at-unwind t n)
     l-wait : {ps : List ℕ} → Like-control z (at-wait ps) (at-wait ps)
     l-capture : {d e : ℕ} {bs : List ℕ} {q : Bool} {x : Expansion} {y : Purpose} → ρ z d e → Like-control z (at-capture d bs q x y) (at-capture e bs q x y)
+
   pub data Like-frames (z : Bool) : List Frame → List Frame → Type 0 where
     l-nil : Like-frames z [] []
     l-rest : {l : CommandList} {k j : List Frame} → Like-frames z k j → Like-frames z (f-list l ∷ k) (f-list l ∷ j)
@@ -89,9 +96,11 @@ module _ (ρ : Bool → ℕ → ℕ → Type 0) where
     l-for : {x : Name} {as₁ : List (List ℕ)} {l : CommandList} {k j : List Frame} → Like-frames z k j → Like-frames z (f-for x as₁ l ∷ k) (f-for x as₁ l ∷ j)
     l-handles : {a b c d : ℕ} {k j : List Frame} → ρ z a c → ρ z b d → Like-frames z k j → Like-frames z (f-handles a b ∷ k) (f-handles c d ∷ j)
     l-arguments : {as₁ : List (List ℕ)} {k j : List Frame} → Like-frames z k j → Like-frames z (f-arguments as₁ ∷ k) (f-arguments as₁ ∷ j)
-  -- the same worker with other numbers
+
+  -- the same process with other numbers
   abbrev pub twin : Process → ℕ → Control → List Frame → ℕ → ℕ → Process
   twin w p c k i o = record { pid = p; control = c; frames = k; stdin = i; stdout = o; variables = w .variables; functions = w .functions; arguments = w .arguments; status = w .status; jobs = w .jobs }
+
   pub record Like-process (z : Bool) (w v : Process) : Type 0 where
     pub control : Like-control z (w .control) (v .control)
     pub frames : Like-frames z (w .frames) (v .frames)
@@ -102,64 +111,83 @@ module _ (ρ : Bool → ℕ → ℕ → Type 0) where
     pub arguments : v .arguments ≡ w .arguments
     pub status : v .status ≡ w .status
     pub jobs : v .jobs ≡ w .jobs
+
 module _ (ρ : Bool → ℕ → ℕ → Type 0) (Q Q′ : System → System → Type 0) (qf : (t y : System) → Q t y → t .files ≡ y .files) (cf : (t y : System) (fs : List File) → Q t y → Q (with-files t fs) (with-files y fs)) (oq : (t y : System) (o : Handle) → Private o → Q t y → Q′ (open-handle t o) (open-handle y o)) (fr : (t y : System) → Q t y → ρ true (length (t .handles)) (length (y .handles))) (up : (i j : ℕ) → ρ false i j → ρ true i j) where
   abbrev pub Like-result : System → System → StepResult → StepResult → Type 0
   Like-result s x (continues w t) (continues v y) = Like-process ρ false w v × Q t y
   Like-result s x (continues w t) (exits m y) = ⊥
   Like-result s x (exits n t) (continues v y) = ⊥
   Like-result s x (exits n t) (exits m y) = (n ≡ m) × Q t y
+
   pick-like : (s x : System) (b : Bool) (o p o′ p′ : StepResult) → Like-result s x o o′ → Like-result s x p p′ → Like-result s x (pick b o p) (pick b o′ p′)
   pick-like s x true o p o′ p′ h k = h
   pick-like s x false o p o′ p′ h k = k
+
   opt-like : {A : Type 0} (s x : System) (m : Option A) (o o′ : StepResult) (f g : A → StepResult) → Like-result s x o o′ → ((a : A) → Like-result s x (f a) (g a)) → Like-result s x (opt m o f) (opt m o′ g)
   opt-like s x none o o′ f g h k = h
   opt-like s x (some a) o o′ f g h k = k a
+
   on-like : (s x t y : System) (w v : Process) (a b : Control) (j l : List Frame) → Like-control ρ false a b → Like-frames ρ false j l → ρ false (w .stdin) (v .stdin) → ρ false (w .stdout) (v .stdout) → v .variables ≡ w .variables → v .functions ≡ w .functions → v .arguments ≡ w .arguments → v .status ≡ w .status → v .jobs ≡ w .jobs → Q t y → Like-result s x (goes-to t w a j) (goes-to y v b l)
   on-like s x t y w v a b j l hc hk hi ho e1 e2 e3 e4 e5 f = (record { control = hc; frames = hk; stdin = hi; stdout = ho; variables = e1; functions = e2; arguments = e3; status = e4; jobs = e5 }, f)
+
   ruleset walk = (pick-like, opt-like, l-done, l-print, l-cat, l-cat-on, l-head, l-wc, l-grep, l-seq, l-yes, l-read, l-list, l-and-or, l-pipeline, l-command, l-words, l-redirects, l-builtin, l-status, l-unwind, l-wait, l-rest, l-joined, l-not, l-if, l-condition, l-body, l-for, l-handles, l-arguments)
+
   test-same : (s x : System) (as₁ : List (List ℕ)) → Q s x → test-status s as₁ ≡ test-status x as₁
   test-same s x [] f = refl
   test-same s x (a ∷ []) f = refl
   test-same s x (a ∷ b ∷ []) f = rw (qf s x f)
   test-same s x (a ∷ b ∷ c ∷ []) f = refl
   test-same s x (a ∷ b ∷ c ∷ d ∷ as₁) f = refl
+
   at-status-like : (n m : ℕ) → n ≡ m → Like-control ρ false (at-status n) (at-status m)
   at-status-like n m e = subst (λ z. Like-control ρ false (at-status n) (at-status z)) e l-status
+
   removed-like : (s x : System) (as₁ : List (List ℕ)) → Q s x → Q (remove-files s as₁) (remove-files x as₁)
   removed-like s x [] f = f
   removed-like s x (a ∷ as₁) f = removed-like (with-files s (remove-file (s .files) a)) (with-files x (remove-file (x .files) a)) as₁ (subst (λ fs. Q (with-files s (remove-file (s .files) a)) (with-files x (remove-file fs a))) (qf s x f) (cf s x _ f))
+
   start-cat-like : (s x : System) (w : Process) (as₁ : List (List ℕ)) (p : ℕ) (c : Control) (k : List Frame) (i o : ℕ) → Q s x → Like-frames ρ false (w .frames) k → ρ false (w .stdin) i → ρ false (w .stdout) o → Like-result s x (start-cat s w as₁) (start-cat x (twin ρ w p c k i o) as₁)
   start-cat-like s x w [] p c k i o f hk hi ho = search walk
   start-cat-like s x w (a ∷ as₁) p c k i o f hk hi ho = search walk
+
   start-seq-like : (s x : System) (w : Process) (as₁ : List (List ℕ)) (p : ℕ) (c : Control) (k : List Frame) (i o : ℕ) → Q s x → Like-frames ρ false (w .frames) k → ρ false (w .stdin) i → ρ false (w .stdout) o → Like-result s x (start-seq s w as₁) (start-seq x (twin ρ w p c k i o) as₁)
   start-seq-like s x w [] p c k i o f hk hi ho = search walk
   start-seq-like s x w (a ∷ []) p c k i o f hk hi ho = search walk
   start-seq-like s x w (a ∷ b ∷ []) p c k i o f hk hi ho = search walk depth 9
   start-seq-like s x w (a ∷ b ∷ e ∷ as₁) p c k i o f hk hi ho = search walk
+
   run-builtin-like : (s x : System) (w : Process) (n : Name) (as₁ : List (List ℕ)) (p : ℕ) (c : Control) (k : List Frame) (i o : ℕ) → Q s x → Like-frames ρ false (w .frames) k → ρ false (w .stdin) i → ρ false (w .stdout) o → Like-result s x (run-builtin s w n as₁) (run-builtin x (twin ρ w p c k i o) n as₁)
   run-builtin-like s x w n as₁ p c k i o f hk hi ho = search (pick-like, opt-like, on-like, start-cat-like, start-seq-like, test-same, at-status-like, removed-like, l-builtin, l-print, l-done, l-head, l-wc, l-grep, l-yes, l-read, l-unwind, l-wait, l-status) depth 30 fits 5000
+
   invoke-like : (s x : System) (w : Process) (as₁ : List (List ℕ)) (p : ℕ) (c : Control) (k : List Frame) (i o : ℕ) → Q s x → Like-frames ρ false (w .frames) k → ρ false (w .stdin) i → ρ false (w .stdout) o → Like-result s x (invoke s w as₁) (invoke x (twin ρ w p c k i o) as₁)
   invoke-like s x w [] p c k i o f hk hi ho = search walk
   invoke-like s x w (a ∷ as₁) p c k i o f hk hi ho = search (walk, run-builtin-like)
+
   assignments-like : (s x : System) (w : Process) (ss : Assignments) (ws : Words) (ts : Redirects) (p : ℕ) (c : Control) (k : List Frame) (i o : ℕ) → Q s x → Like-frames ρ false (w .frames) k → ρ false (w .stdin) i → ρ false (w .stdout) o → Like-result s x (step-assignments s w ss ws ts) (step-assignments x (twin ρ w p c k i o) ss ws ts)
   assignments-like s x w no-assignments ws ts p c k i o f hk hi ho = search walk
   assignments-like s x w (assign y v ss) ws ts p c k i o f hk hi ho = search walk
+
   arms-like : (s x : System) (w : Process) (y : List ℕ) (is : Arms) (p : ℕ) (c : Control) (k : List Frame) (i o : ℕ) → Q s x → Like-frames ρ false (w .frames) k → ρ false (w .stdin) i → ρ false (w .stdout) o → Like-result s x (step-arms s w y is) (step-arms x (twin ρ w p c k i o) y is)
   arms-like s x w y no-arms p c k i o f hk hi ho = search walk
   arms-like s x w y (arm v l is) p c k i o f hk hi ho = search walk
+
   for-like : (s x : System) (w : Process) (y : Name) (as₁ : List (List ℕ)) (l : CommandList) (p : ℕ) (c : Control) (k : List Frame) (i o : ℕ) → Q s x → Like-frames ρ false (w .frames) k → ρ false (w .stdin) i → ρ false (w .stdout) o → Like-result s x (step-for s w y as₁ l) (step-for x (twin ρ w p c k i o) y as₁ l)
   for-like s x w y [] l p c k i o f hk hi ho = search walk
   for-like s x w y (a ∷ as₁) l p c k i o f hk hi ho = search walk
+
   list-like : (s x : System) (w : Process) (l : CommandList) (p : ℕ) (c : Control) (k : List Frame) (i o : ℕ) → Q s x → Like-frames ρ false (w .frames) k → ρ false (w .stdin) i → ρ false (w .stdout) o → Foreground l → Like-result s x (step-list s w l) (step-list x (twin ρ w p c k i o) l)
   list-like s x w end p c k i o f hk hi ho h = search walk
   list-like s x w (next a false l) p c k i o f hk hi ho h = search walk
   list-like s x w (next a true l) p c k i o f hk hi ho h = absurd h
+
   and-or-like : (s x : System) (w : Process) (a : AndOr) (p : ℕ) (c : Control) (k : List Frame) (i o : ℕ) → Q s x → Like-frames ρ false (w .frames) k → ρ false (w .stdin) i → ρ false (w .stdout) o → Like-result s x (step-and-or s w a) (step-and-or x (twin ρ w p c k i o) a)
   and-or-like s x w (first n q) p c k i o f hk hi ho = search walk
   and-or-like s x w (joined a b n q) p c k i o f hk hi ho = search walk
+
   else-like : (s x : System) (w : Process) (l : ElsePart) (p : ℕ) (c : Control) (k : List Frame) (i o : ℕ) → Q s x → Like-frames ρ false (w .frames) k → ρ false (w .stdin) i → ρ false (w .stdout) o → Like-result s x (step-else s w l (w .frames)) (step-else x (twin ρ w p c k i o) l k)
   else-like s x w no-else p c k i o f hk hi ho = search walk
   else-like s x w (else l) p c k i o f hk hi ho = search walk
+
   status-like : (s x : System) (w : Process) (n : ℕ) (j k : List Frame) (p : ℕ) (c : Control) (l : List Frame) (i o : ℕ) → Q s x → Like-frames ρ false j k → ρ false (w .stdin) i → ρ false (w .stdout) o → Like-result s x (step-status s w n j) (step-status x (twin ρ w p c l i o) n k)
   status-like s x w n j k p c l i o f l-nil hi ho = search walk
   status-like s x w n j k p c l i o f (l-rest {l = end} h) hi ho = search walk
@@ -174,6 +202,7 @@ module _ (ρ : Bool → ℕ → ℕ → Type 0) (Q Q′ : System → System → 
   status-like s x w n j k p c l i o f (l-for {as₁ = a ∷ as₁} h) hi ho = search walk
   status-like s x w n j k p c l i o f (l-handles a b h) hi ho = search walk
   status-like s x w n j k p c l i o f (l-arguments h) hi ho = search walk
+
   unwind-like : (s x : System) (w : Process) (t : Unwind) (n : ℕ) (j k : List Frame) (p : ℕ) (c : Control) (l : List Frame) (i o : ℕ) → Q s x → Like-frames ρ false j k → ρ false (w .stdin) i → ρ false (w .stdout) o → Like-result s x (step-unwind s w t n j) (step-unwind x (twin ρ w p c l i o) t n k)
   unwind-like s x w t n j k p c l i o f l-nil hi ho = search walk
   unwind-like s x w t n j k p c l i o f (l-rest h) hi ho = search walk
@@ -197,9 +226,11 @@ module _ (ρ : Bool → ℕ → ℕ → Type 0) (Q Q′ : System → System → 
   unwind-like s x w continue n j k p c l i o f (l-arguments h) hi ho = search walk
   unwind-like s x w return n j k p c l i o f (l-arguments h) hi ho = search walk
   unwind-like s x w exit n j k p c l i o f (l-arguments h) hi ho = search walk
+
   redirected-like : (s x : System) (w : Process) (ts : Redirects) (d : Command) (a b : StepResult) (p : ℕ) (c : Control) (k : List Frame) (i o : ℕ) → Q s x → Like-frames ρ false (w .frames) k → ρ false (w .stdin) i → ρ false (w .stdout) o → Like-result s x a b → Like-result s x (redirected s w ts d a) (redirected x (twin ρ w p c k i o) ts d b)
   redirected-like s x w no-redirects d a b p c k i o f hk hi ho h = h
   redirected-like s x w (redirect n v ts) d a b p c k i o f hk hi ho h = search walk
+
   command-like : (s x : System) (w : Process) (d : Command) (p : ℕ) (c : Control) (k : List Frame) (i o : ℕ) → Q s x → Like-frames ρ false (w .frames) k → ρ false (w .stdin) i → ρ false (w .stdout) o → In-process d → Like-result s x (step-command s w d) (step-command x (twin ρ w p c k i o) d)
   command-like s x w (simple ss ws ts) p c k i o f hk hi ho h = assignments-like s x w ss ws ts p c k i o f hk hi ho
   command-like s x w (group l ts) p c k i o f hk hi ho h = redirected-like s x w ts _ _ _ p c k i o f hk hi ho (search walk)
@@ -209,9 +240,11 @@ module _ (ρ : Bool → ℕ → ℕ → Type 0) (Q Q′ : System → System → 
   command-like s x w (case v is ts) p c k i o f hk hi ho h = redirected-like s x w ts _ _ _ p c k i o f hk hi ho (search walk)
   command-like s x w (subshell l ts) p c k i o f hk hi ho h = absurd h
   command-like s x w (function y l) p c k i o f hk hi ho h = absurd h
+
   pipeline-like : (s x : System) (w : Process) (n : Bool) (d : Command) (p : ℕ) (c : Control) (k : List Frame) (i o : ℕ) → Q s x → Like-frames ρ false (w .frames) k → ρ false (w .stdin) i → ρ false (w .stdout) o → Like-result s x (step-pipeline s w n (single d)) (step-pipeline x (twin ρ w p c k i o) n (single d))
   pipeline-like s x w true d p c k i o f hk hi ho = search walk
   pipeline-like s x w false d p c k i o f hk hi ho = search walk
+
   abbrev Not-redirect : Purpose → Type 0
   Not-redirect (to-assign x ss ws ts) = Unit {0}
   Not-redirect (to-invoke ts) = Unit {0}
@@ -219,6 +252,7 @@ module _ (ρ : Bool → ℕ → ℕ → Type 0) (Q Q′ : System → System → 
   Not-redirect (to-loop x l) = Unit {0}
   Not-redirect (to-select is) = Unit {0}
   Not-redirect (to-match x l is) = Unit {0}
+
   expanded-like : (s x : System) (w : Process) (fs : List (List QuotedByte)) (y : Purpose) (p : ℕ) (c : Control) (k : List Frame) (i o : ℕ) → Q s x → Like-frames ρ false (w .frames) k → ρ false (w .stdin) i → ρ false (w .stdout) o → Not-redirect y → Like-result s x (expanded s w fs y) (expanded x (twin ρ w p c k i o) fs y)
   expanded-like s x w fs (to-assign a ss ws ts) p c k i o f hk hi ho h = assignments-like s x (with-variables w _) ss ws ts p c k i o f hk hi ho
   expanded-like s x w fs (to-invoke ts) p c k i o f hk hi ho h = subst (λ fs₁. Like-result s x (goes-to s w (at-redirects ts (then-invoke (all-pathnames (s .files) fs))) (f-handles (w .stdin) (w .stdout) ∷ w .frames)) (goes-to x (twin ρ w p c k i o) (at-redirects ts (then-invoke (all-pathnames fs₁ fs))) (f-handles i o ∷ k))) (qf s x f) (search walk)
@@ -226,18 +260,22 @@ module _ (ρ : Bool → ℕ → ℕ → Type 0) (Q Q′ : System → System → 
   expanded-like s x w fs (to-loop a l) p c k i o f hk hi ho h = subst (λ fs₁. Like-result s x (step-for s w a (all-pathnames (s .files) fs) l) (step-for x (twin ρ w p c k i o) a (all-pathnames fs₁ fs) l)) (qf s x f) (for-like s x w a (all-pathnames (s .files) fs) l p c k i o f hk hi ho)
   expanded-like s x w fs (to-select is) p c k i o f hk hi ho h = arms-like s x w _ is p c k i o f hk hi ho
   expanded-like s x w fs (to-match a l is) p c k i o f hk hi ho h = search (walk, arms-like)
+
   next-word-like : (s x : System) (w : Process) (a : Expansion) (vs : Words) (y : Purpose) (p : ℕ) (c : Control) (k : List Frame) (i o : ℕ) → Q s x → Like-frames ρ false (w .frames) k → ρ false (w .stdin) i → ρ false (w .stdout) o → Not-redirect y → Like-result s x (next-word s w a vs y) (next-word x (twin ρ w p c k i o) a vs y)
   next-word-like s x w a no-words y p c k i o f hk hi ho h = expanded-like s x w (close-word (a .current) (a .complete)) y p c k i o f hk hi ho h
   next-word-like s x w a (and-word v vs) y p c k i o f hk hi ho h = search walk
+
   expansion-like : (s x : System) (w : Process) (a : Expansion) (v : Word) (y : Purpose) (p : ℕ) (c : Control) (k : List Frame) (i o : ℕ) → Q s x → Like-frames ρ false (w .frames) k → ρ false (w .stdin) i → ρ false (w .stdout) o → Not-redirect y → No-substitution v → Like-result s x (step-expansion s w a v y) (step-expansion x (twin ρ w p c k i o) a v y)
   expansion-like s x w a no-parts y p c k i o f hk hi ho h g = next-word-like s x w a (a .words) y p c k i o f hk hi ho h
   expansion-like s x w a (and-part (literal q bs) r) y p c k i o f hk hi ho h g = search walk
   expansion-like s x w a (and-part (parameter q n) r) y p c k i o f hk hi ho h g = search walk
   expansion-like s x w a (and-part (substitution q l) r) y p c k i o f hk hi ho h g = absurd g
+
   redirects-like : (s x : System) (w : Process) (ts : Redirects) (t : AfterRedirects) (p : ℕ) (c : Control) (k : List Frame) (i o : ℕ) → Q s x → Like-frames ρ false (w .frames) k → ρ false (w .stdin) i → ρ false (w .stdout) o → Like-result s x (step-redirects s w ts t) (step-redirects x (twin ρ w p c k i o) ts t)
   redirects-like s x w no-redirects (then-invoke as₁) p c k i o f hk hi ho = invoke-like s x w as₁ p c k i o f hk hi ho
   redirects-like s x w no-redirects (then-command d) p c k i o f hk hi ho = search walk
   redirects-like s x w (redirect n v ts) t p c k i o f hk hi ho = search walk
+
   -- reading and writing with the same answer
   abbrev pub Like-read : System → System → ReadByte → ReadByte → Type 0
   Like-read s x (got b t) (got d y) = (b ≡ d) × Q t y
@@ -249,6 +287,7 @@ module _ (ρ : Bool → ℕ → ℕ → Type 0) (Q Q′ : System → System → 
   Like-read s x must-wait (got d y) = ⊥
   Like-read s x must-wait at-end = ⊥
   Like-read s x must-wait must-wait = Unit {0}
+
   abbrev pub Like-write : System → System → WriteByte → WriteByte → Type 0
   Like-write s x (wrote t) (wrote y) = Q t y
   Like-write s x (wrote t) pipe-full = ⊥
@@ -259,6 +298,7 @@ module _ (ρ : Bool → ℕ → ℕ → Type 0) (Q Q′ : System → System → 
   Like-write s x no-reader (wrote y) = ⊥
   Like-write s x no-reader pipe-full = ⊥
   Like-write s x no-reader no-reader = Q s x
+
   abbrev pub Like-step : Option StepResult → Option StepResult → Type 0
   Like-step none none = Unit {0}
   Like-step none (some o) = ⊥
@@ -267,15 +307,20 @@ module _ (ρ : Bool → ℕ → ℕ → Type 0) (Q Q′ : System → System → 
   Like-step (some (continues w t)) (some (exits m y)) = ⊥
   Like-step (some (exits n t)) (some (continues v y)) = ⊥
   Like-step (some (exits n t)) (some (exits m y)) = (n ≡ m) × Q t y
+
   pick-like-i : (b : Bool) (o p o′ p′ : Option StepResult) → Like-step o o′ → Like-step p p′ → Like-step (pick b o p) (pick b o′ p′)
   pick-like-i true o p o′ p′ h k = h
   pick-like-i false o p o′ p′ h k = k
+
   opt-like-i : {A : Type 0} (m : Option A) (o o′ : Option StepResult) (f g : A → Option StepResult) → Like-step o o′ → ((a : A) → Like-step (f a) (g a)) → Like-step (opt m o f) (opt m o′ g)
   opt-like-i none o o′ f g h k = h
   opt-like-i (some a) o o′ f g h k = k a
+
   on-like-i : (t y : System) (w v : Process) (a b : Control) (j l : List Frame) → Like-control ρ false a b → Like-frames ρ false j l → ρ false (w .stdin) (v .stdin) → ρ false (w .stdout) (v .stdout) → v .variables ≡ w .variables → v .functions ≡ w .functions → v .arguments ≡ w .arguments → v .status ≡ w .status → v .jobs ≡ w .jobs → Q t y → Like-step (some (goes-to t w a j)) (some (goes-to y v b l))
   on-like-i t y w v a b j l hc hk hi ho e1 e2 e3 e4 e5 f = inl (record { control = hc; frames = hk; stdin = hi; stdout = ho; variables = e1; functions = e2; arguments = e3; status = e4; jobs = e5 }, f)
+
   ruleset step-rules = (pick-like-i, opt-like-i, on-like-i, l-builtin, l-print, l-done, l-head, l-wc, l-grep, l-yes, l-read, l-seq, l-cat, l-cat-on, l-status, l-words)
+
   weaken-k : (k j : List Frame) → Like-frames ρ false k j → Like-frames ρ true k j
   weaken-k k j l-nil = l-nil
   weaken-k k j (l-rest h) = l-rest (weaken-k _ _ h)
@@ -287,9 +332,12 @@ module _ (ρ : Bool → ℕ → ℕ → Type 0) (Q Q′ : System → System → 
   weaken-k k j (l-for h) = l-for (weaken-k _ _ h)
   weaken-k k j (l-handles a b h) = l-handles (up _ _ a) (up _ _ b) (weaken-k _ _ h)
   weaken-k k j (l-arguments h) = l-arguments (weaken-k _ _ h)
+
   on-open-i : (t y : System) (q : Handle) (w v : Process) (a b : Control) (j l : List Frame) → Private q → Q t y → Like-control ρ true a b → Like-frames ρ true j l → ρ true (w .stdin) (v .stdin) → ρ true (w .stdout) (v .stdout) → v .variables ≡ w .variables → v .functions ≡ w .functions → v .arguments ≡ w .arguments → v .status ≡ w .status → v .jobs ≡ w .jobs → Like-step (some (goes-to (open-handle t q) w a j)) (some (goes-to (open-handle y q) v b l))
   on-open-i t y q w v a b j l po f hc hk hi ho e1 e2 e3 e4 e5 = inr (record { control = hc; frames = hk; stdin = hi; stdout = ho; variables = e1; functions = e2; arguments = e3; status = e4; jobs = e5 }, oq t y q po f)
+
   ruleset open-rules = (step-rules, on-open-i, weaken-k)
+
   read-like : (s x : System) (d e : ℕ) (f g : System → ℕ → Option StepResult) (z z′ : Option StepResult) → Like-read s x (read-byte s d) (read-byte x e) → ((t y : System) (b : ℕ) → Q t y → Like-step (f t b) (g y b)) → (Q s x → Like-step z z′) → Like-step (read-or s d f z) (read-or x e g z′)
   read-like s x d e f g z z′ h k l = by (read-byte s d) (read-byte x e) h refl refl
     where
@@ -303,6 +351,7 @@ module _ (ρ : Bool → ℕ → ℕ → Type 0) (Q Q′ : System → System → 
       by must-wait (got c y) h p q = absurd h
       by must-wait at-end h p q = absurd h
       by must-wait must-wait h p q = rw (p, q) tt
+
   print-like : (s x : System) (w : Process) (b : ℕ) (bs : List ℕ) (u v : Builtin) (p : ℕ) (c : Control) (k : List Frame) (i o : ℕ) → Like-frames ρ false (w .frames) k → ρ false (w .stdin) i → ρ false (w .stdout) o → Like-builtin ρ false u v → Like-write s x (write-byte s (w .stdout) b) (write-byte x o b) → Like-step (print-byte s w (b ∷ bs) u) (print-byte x (twin ρ w p c k i o) (b ∷ bs) v)
   print-like s x w b bs u v p c k i o hk hi ho l h = by (write-byte s (w .stdout) b) (write-byte x o b) h refl refl
     where
@@ -316,12 +365,15 @@ module _ (ρ : Bool → ℕ → ℕ → Type 0) (Q Q′ : System → System → 
       by no-reader (wrote y) h q r = absurd h
       by no-reader pipe-full h q r = absurd h
       by no-reader no-reader h q r = rw (q, r) (refl, h)
+
   cat-next-like : (s x : System) (w : Process) (xs : List Name) (p : ℕ) (c : Control) (k : List Frame) (i o : ℕ) → Q s x → Like-frames ρ false (w .frames) k → ρ false (w .stdin) i → ρ false (w .stdout) o → Like-step (cat-next s w xs) (cat-next x (twin ρ w p c k i o) xs)
   cat-next-like s x w [] p c k i o f hk hi ho = search step-rules
   cat-next-like s x w (a ∷ xs) p c k i o f hk hi ho = subst (λ fs₁. Like-step (cat-next s w (a ∷ xs)) (opt (find-file fs₁ a) (builtin-at x (twin ρ w p c k i o) (b-done 1)) (λ b. builtin-at (open-handle x (file-read a 0)) (twin ρ w p c k i o) (b-cat xs (some (length (x .handles))))))) (qf s x f) (search (open-rules, up, fr, cf) depth 7)
+
   grep-last-like : (s x : System) (w : Process) (q l : List ℕ) (b : Bool) (p : ℕ) (c : Control) (k : List Frame) (i o : ℕ) → Q s x → Like-frames ρ false (w .frames) k → ρ false (w .stdin) i → ρ false (w .stdout) o → Like-step (grep-last s w q l b) (grep-last x (twin ρ w p c k i o) q l b)
   grep-last-like s x w q [] b p c k i o f hk hi ho = search step-rules
   grep-last-like s x w q (a ∷ l) b p c k i o f hk hi ho = search step-rules depth 7
+
   abbrev pub Io-builtin : (s x : System) (w : Process) (i o : ℕ) (u v : Builtin) → Like-builtin ρ false u v → Type 0
   Io-builtin s x w i o u v l-done = Q s x
   Io-builtin s x w i o u v (l-print {bs = []} h) = Q s x
@@ -335,6 +387,7 @@ module _ (ρ : Bool → ℕ → ℕ → Type 0) (Q Q′ : System → System → 
   Io-builtin s x w i o u v l-seq = Q s x
   Io-builtin s x w i o u v l-yes = Q s x
   Io-builtin s x w i o u v l-read = Like-read s x (read-byte s (w .stdin)) (read-byte x i)
+
   builtin-like : (s x : System) (w : Process) (u v : Builtin) (p : ℕ) (c : Control) (k : List Frame) (i o : ℕ) → Like-frames ρ false (w .frames) k → ρ false (w .stdin) i → ρ false (w .stdout) o → (l : Like-builtin ρ false u v) → Io-builtin s x w i o u v l → Like-step (step-builtin s w u) (step-builtin x (twin ρ w p c k i o) v)
   builtin-like s x w u v p c k i o hk hi ho l-done h = search step-rules
   builtin-like s x w u v p c k i o hk hi ho (l-print {bs = []} l) h = search step-rules
@@ -348,22 +401,27 @@ module _ (ρ : Bool → ℕ → ℕ → Type 0) (Q Q′ : System → System → 
   builtin-like s x w u v p c k i o hk hi ho l-seq h = search step-rules depth 8
   builtin-like s x w u v p c k i o hk hi ho l-yes h = search step-rules depth 8
   builtin-like s x w u v p c k i o hk hi ho l-read h = read-like s x _ _ _ _ _ _ h (search step-rules depth 8) (search step-rules depth 8)
+
   of-result : (s x : System) (a b : StepResult) → Like-result s x a b → Like-step (some a) (some b)
   of-result s x (continues w t) (continues v y) h = inl (h .0, h .1)
   of-result s x (continues w t) (exits m y) h = absurd h
   of-result s x (exits n t) (continues v y) h = absurd h
   of-result s x (exits n t) (exits m y) h = (h .0, h .1)
+
   same-some : (b : Bool) (o q : StepResult) → some (pick b o q) ≡ pick b (some o) (some q)
   same-some true o q = refl
   same-some false o q = refl
+
   opt-some : {A : Type 0} (m : Option A) (o : StepResult) (g : A → StepResult) → some (opt m o g) ≡ opt m (some o) (λ a. some (g a))
   opt-some none o g = refl
   opt-some (some a) o g = refl
+
   apply-like : (s x : System) (w : Process) (n : RedirectKind) (a : List ℕ) (ts : Redirects) (t : AfterRedirects) (p : ℕ) (c : Control) (k : List Frame) (i o : ℕ) → Q s x → Like-frames ρ false (w .frames) k → ρ false (w .stdin) i → ρ false (w .stdout) o → Like-step (some (apply-redirect s w n a ts t)) (some (apply-redirect x (twin ρ w p c k i o) n a ts t))
   apply-like s x w input a ts t p c k i o f hk hi ho = subst (λ fs₁. Like-step (some (apply-redirect s w input a ts t)) (some (opt (find-file fs₁ a) (completes x (twin ρ w p c k i o) 1) (λ b. goes-to (open-handle x (file-read a 0)) (with-io (twin ρ w p c k i o) (length (x .handles)) o) (at-redirects ts t) k)))) (qf s x f) (simp opt-some (search (open-rules, l-redirects, up, fr) depth 9 fits 3000))
   apply-like s x w output a ts t p c k i o f hk hi ho = subst (λ fs₁. Like-step (some (apply-redirect s w output a ts t)) (some (goes-to (open-handle (with-files x (set-file fs₁ a [])) (file-append a)) (with-io (twin ρ w p c k i o) i (length (x .handles))) (at-redirects ts t) k))) (qf s x f) (search (open-rules, l-redirects, up, fr, cf) depth 9 fits 3000)
   apply-like s x w append a ts t p c k i o f hk hi ho = subst (λ fs₁. Like-step (some (apply-redirect s w append a ts t)) (some (goes-to (open-handle (with-files x (set-file fs₁ a (opt (find-file fs₁ a) [] (λ b. b)))) (file-append a)) (with-io (twin ρ w p c k i o) i (length (x .handles))) (at-redirects ts t) k))) (qf s x f) (search (open-rules, l-redirects, up, fr, cf) depth 9 fits 3000)
   apply-like s x w here a ts t p c k i o f hk hi ho = search (open-rules, l-redirects, up, fr) depth 9 fits 3000
+
   expanded-step : (s x : System) (w : Process) (fs : List (List QuotedByte)) (y : Purpose) (p : ℕ) (c : Control) (k : List Frame) (i o : ℕ) → Q s x → Like-frames ρ false (w .frames) k → ρ false (w .stdin) i → ρ false (w .stdout) o → Like-step (some (expanded s w fs y)) (some (expanded x (twin ρ w p c k i o) fs y))
   expanded-step s x w fs (to-assign a ss ws ts) p c k i o f hk hi ho = of-result s x (expanded s w fs (to-assign a ss ws ts)) (expanded x (twin ρ w p c k i o) fs (to-assign a ss ws ts)) (expanded-like s x w fs (to-assign a ss ws ts) p c k i o f hk hi ho tt)
   expanded-step s x w fs (to-invoke ts) p c k i o f hk hi ho = of-result s x (expanded s w fs (to-invoke ts)) (expanded x (twin ρ w p c k i o) fs (to-invoke ts)) (expanded-like s x w fs (to-invoke ts) p c k i o f hk hi ho tt)
@@ -371,15 +429,18 @@ module _ (ρ : Bool → ℕ → ℕ → Type 0) (Q Q′ : System → System → 
   expanded-step s x w fs (to-loop a l) p c k i o f hk hi ho = of-result s x (expanded s w fs (to-loop a l)) (expanded x (twin ρ w p c k i o) fs (to-loop a l)) (expanded-like s x w fs (to-loop a l) p c k i o f hk hi ho tt)
   expanded-step s x w fs (to-select is) p c k i o f hk hi ho = of-result s x (expanded s w fs (to-select is)) (expanded x (twin ρ w p c k i o) fs (to-select is)) (expanded-like s x w fs (to-select is) p c k i o f hk hi ho tt)
   expanded-step s x w fs (to-match a l is) p c k i o f hk hi ho = of-result s x (expanded s w fs (to-match a l is)) (expanded x (twin ρ w p c k i o) fs (to-match a l is)) (expanded-like s x w fs (to-match a l is) p c k i o f hk hi ho tt)
+
   next-word-step : (s x : System) (w : Process) (a : Expansion) (vs : Words) (y : Purpose) (p : ℕ) (c : Control) (k : List Frame) (i o : ℕ) → Q s x → Like-frames ρ false (w .frames) k → ρ false (w .stdin) i → ρ false (w .stdout) o → Like-step (some (next-word s w a vs y)) (some (next-word x (twin ρ w p c k i o) a vs y))
   next-word-step s x w a no-words y p c k i o f hk hi ho = expanded-step s x w (close-word (a .current) (a .complete)) y p c k i o f hk hi ho
   next-word-step s x w a (and-word v vs) y p c k i o f hk hi ho = search (step-rules, l-words)
+
   expansion-step : (s x : System) (w : Process) (a : Expansion) (v : Word) (y : Purpose) (p : ℕ) (c : Control) (k : List Frame) (i o : ℕ) → Q s x → Like-frames ρ false (w .frames) k → ρ false (w .stdin) i → ρ false (w .stdout) o → No-substitution v → Like-step (some (step-expansion s w a v y)) (some (step-expansion x (twin ρ w p c k i o) a v y))
   expansion-step s x w a no-parts y p c k i o f hk hi ho g = next-word-step s x w a (a .words) y p c k i o f hk hi ho
   expansion-step s x w a (and-part (literal q bs) r) y p c k i o f hk hi ho g = search step-rules
   expansion-step s x w a (and-part (parameter q m) r) y p c k i o f hk hi ho g = search step-rules
   expansion-step s x w a (and-part (substitution q l) r) y p c k i o f hk hi ho g = absurd g
-  -- nobody is made in this turn
+
+  -- nobody is made in this step
   -- what is read and written comes out alike
   abbrev pub Io-control : (s x : System) (w : Process) (i o : ℕ) (d e : Control) → Like-control ρ false d e → Type 0
   Io-control s x w i o d e l-list = Q s x
@@ -393,6 +454,7 @@ module _ (ρ : Bool → ℕ → ℕ → Type 0) (Q Q′ : System → System → 
   Io-control s x w i o d e l-unwind = Q s x
   Io-control s x w i o d e l-wait = Q s x
   Io-control s x w i o d e (l-capture {d = a} {e = b} h) = Like-read s x (read-byte s a) (read-byte x b)
+
   pub step-like : (s x : System) (w : Process) (d e : Control) (p : ℕ) (c : Control) (k : List Frame) (i o : ℕ) → Like-frames ρ false (w .frames) k → ρ false (w .stdin) i → ρ false (w .stdout) o → (l : Like-control ρ false d e) → Sequential d → Io-control s x w i o d e l → Like-step (step-control s w d) (step-control x (twin ρ w p c k i o) e)
   step-like s x w d e p c k i o hk hi ho (l-list {l = m}) q h = of-result s x (step-list s w m) (step-list x (twin ρ w p c k i o) m) (list-like s x w m p c k i o h hk hi ho q)
   step-like s x w d e p c k i o hk hi ho (l-and-or {a = a}) q h = of-result s x (step-and-or s w a) (step-and-or x (twin ρ w p c k i o) a) (and-or-like s x w a p c k i o h hk hi ho)

@@ -1,4 +1,4 @@
--- A worker with its numbers, and the same worker in a system of its own, with its own numbers.
+-- A process with its numbers, and the same process in a system of its own, with its own numbers.
 use mathlib.Core.Path.{_≡_, refl, sym, _∙_, ap, subst}
 use mathlib.Core.Logic.{_⊎_, inl, inr}
 use mathlib.Core.Bool.{Bool, true, false, _&&_, _||_, not}
@@ -31,6 +31,7 @@ module _ (ρ σ : Bool → ℕ → ℕ → Type 0) (z y : Bool) (g : (i j : ℕ)
   map-builtin u v l-seq = l-seq
   map-builtin u v l-yes = l-yes
   map-builtin u v l-read = l-read
+
   map-control : (c d : Control) → Like-control ρ z c d → Like-control σ y c d
   map-control c d l-list = l-list
   map-control c d l-and-or = l-and-or
@@ -43,6 +44,7 @@ module _ (ρ σ : Bool → ℕ → ℕ → Type 0) (z y : Bool) (g : (i j : ℕ)
   map-control c d l-unwind = l-unwind
   map-control c d l-wait = l-wait
   map-control c d (l-capture h) = l-capture (g _ _ h)
+
   map-frames : (k j : List Frame) → Like-frames ρ z k j → Like-frames σ y k j
   map-frames k j l-nil = l-nil
   map-frames k j (l-rest h) = l-rest (map-frames _ _ h)
@@ -54,12 +56,14 @@ module _ (ρ σ : Bool → ℕ → ℕ → Type 0) (z y : Bool) (g : (i j : ℕ)
   map-frames k j (l-for h) = l-for (map-frames _ _ h)
   map-frames k j (l-handles a b h) = l-handles (g _ _ a) (g _ _ b) (map-frames _ _ h)
   map-frames k j (l-arguments h) = l-arguments (map-frames _ _ h)
+
   pub map-process : (w v : Process) → Like-process ρ z w v → Like-process σ y w v
   map-process w v h = record { control = map-control _ _ (h .control); frames = map-frames _ _ (h .frames); stdin = g _ _ (h .stdin); stdout = g _ _ (h .stdout); variables = h .variables; functions = h .functions; arguments = h .arguments; status = h .status; jobs = h .jobs }
 
 -- own numbers are places in a list of the system's numbers
 abbrev pub Table : List ℕ → Bool → ℕ → ℕ → Type 0
 Table table z i a = nth table a ≡ some i
+
 -- what is open under the two numbers: the same, or what is read from and written to outside
 abbrev pub Alike : Handle → Handle → Option Handle → Option Handle → Type 0
 Alike i o none none = Unit {0}
@@ -72,6 +76,7 @@ Alike i o (some p) (some (pipe-write n)) = ⊥
 Alike i o (some p) (some host-input) = p ≡ i
 Alike i o (some p) (some host-paper) = p ≡ o
 Alike i o (some p) (some (here-text bs)) = p ≡ here-text bs
+
 -- what reading leaves as it is
 abbrev pub Fixed : Option Handle → Type 0
 Fixed none = Unit {0}
@@ -82,12 +87,14 @@ Fixed (some (pipe-write n)) = Unit {0}
 Fixed (some host-input) = Unit {0}
 Fixed (some host-paper) = Unit {0}
 Fixed (some (here-text bs)) = ⊥
+
 pub record Agrees (i0 o0 : Handle) (table : List ℕ) (s x : System) : Type 0 where
   pub len : length table ≡ length (x .handles)
   pub within : (a i : ℕ) → nth table a ≡ some i → i < length (s .handles)
   pub once : (a b i : ℕ) → nth table a ≡ some i → nth table b ≡ some i → a ≡ b
   pub alike : (a i : ℕ) → nth table a ≡ some i → Alike i0 o0 (nth (s .handles) i) (nth (x .handles) a)
   pub files : s .files ≡ x .files
+
 pub record Preserves (table : List ℕ) (s t : System) : Type 0 where
   pub processes : t .processes ≡ s .processes
   pub next1 : t .next-pid ≡ s .next-pid
@@ -97,12 +104,14 @@ pub record Preserves (table : List ℕ) (s t : System) : Type 0 where
   pub exited : t .exited ≡ s .exited
   pub longer : length (s .handles) ≤ length (t .handles)
   pub others : (i : ℕ) → i < length (s .handles) → ((a : ℕ) → nth table a ≡ some i → Fixed (nth (s .handles) i)) → nth (t .handles) i ≡ nth (s .handles) i
+
 pub equal-or-not : (i j : ℕ) → (i ≡ j) ⊎ (i ≡ j → ⊥)
 equal-or-not i j = by (eqb i j) refl
   where
     by : (z : Bool) → eqb i j ≡ z → (i ≡ j) ⊎ (i ≡ j → ⊥)
     by true p = inl (grind arith)
     by false p = inr (λ e. absurd (grind arith))
+
 abbrev pub Input-handle : Handle → Type 0
 Input-handle (file-read x n) = ⊥
 Input-handle (file-append x) = ⊥
@@ -111,6 +120,7 @@ Input-handle (pipe-write p) = ⊥
 Input-handle host-input = Unit {0}
 Input-handle host-paper = ⊥
 Input-handle (here-text bs) = ⊥
+
 abbrev pub Output-handle : Handle → Type 0
 Output-handle (file-read x n) = ⊥
 Output-handle (file-append x) = ⊥
@@ -119,13 +129,16 @@ Output-handle (pipe-write p) = Unit {0}
 Output-handle host-input = ⊥
 Output-handle host-paper = Unit {0}
 Output-handle (here-text bs) = ⊥
+
 pub preserves-self : (table : List ℕ) (s : System) → Preserves table s s
 preserves-self table s = record { processes = refl; next1 = refl; pipes = refl; input = refl; paper = refl; exited = refl; longer = omega arith; others = λ i h g. refl }
--- what a worker of its own does next: a turn of its own, read from outside, write outside
+
+-- what a process of its own does next: a step of its own, read from outside, write outside
 pub data Request : Type 0 where
   r-none : Request
   r-read : Request
   r-write : ℕ → Request
+
 abbrev pub is-host-input : Option Handle → Bool
 is-host-input none = false
 is-host-input (some (file-read x n)) = false
@@ -135,6 +148,7 @@ is-host-input (some (pipe-write p)) = false
 is-host-input (some host-input) = true
 is-host-input (some host-paper) = false
 is-host-input (some (here-text bs)) = false
+
 abbrev pub is-host-paper : Option Handle → Bool
 is-host-paper none = false
 is-host-paper (some (file-read x n)) = false
@@ -144,6 +158,7 @@ is-host-paper (some (pipe-write p)) = false
 is-host-paper (some host-input) = false
 is-host-paper (some host-paper) = true
 is-host-paper (some (here-text bs)) = false
+
 abbrev pub builtin-request : System → Process → Builtin → Request
 builtin-request x v (b-done n) = r-none
 builtin-request x v (b-print [] u) = r-none
@@ -157,6 +172,7 @@ builtin-request x v (b-grep p l f) = pick (is-host-input (nth (x .handles) (v .s
 builtin-request x v (b-seq a b) = r-none
 builtin-request x v (b-yes l) = r-none
 builtin-request x v (b-read n l) = pick (is-host-input (nth (x .handles) (v .stdin))) r-read r-none
+
 abbrev pub request : System → Process → Control → Request
 request x v (at-list l) = r-none
 request x v (at-and-or a) = r-none
@@ -169,6 +185,7 @@ request x v (at-status n) = r-none
 request x v (at-unwind t n) = r-none
 request x v (at-wait ps) = r-none
 request x v (at-capture d bs q a y) = pick (is-host-input (nth (x .handles) d)) r-read r-none
+
 -- from where it is read
 abbrev pub builtin-source : Process → Builtin → ℕ
 builtin-source w (b-done n) = w .stdin
@@ -181,6 +198,7 @@ builtin-source w (b-grep p l f) = w .stdin
 builtin-source w (b-seq a b) = w .stdin
 builtin-source w (b-yes l) = w .stdin
 builtin-source w (b-read x l) = w .stdin
+
 abbrev pub control-source : Process → Control → ℕ
 control-source w (at-list l) = 0
 control-source w (at-and-or a) = 0
@@ -193,41 +211,53 @@ control-source w (at-status n) = 0
 control-source w (at-unwind t n) = 0
 control-source w (at-wait ps) = 0
 control-source w (at-capture d bs q a y) = d
+
 abbrev Is-none : Request → Type 0
 Is-none r-none = Unit {0}
 Is-none r-read = ⊥
 Is-none (r-write b) = ⊥
+
 abbrev Is-read : Request → Type 0
 Is-read r-none = ⊥
 Is-read r-read = Unit {0}
 Is-read (r-write b) = ⊥
+
 abbrev Is-write : ℕ → Request → Type 0
 Is-write b r-none = ⊥
 Is-write b r-read = ⊥
 Is-write b (r-write c) = c ≡ b
+
 not-none : {A : Type 0} (a : Request) → r-none ≡ a → (Is-none a → ⊥) → A
 not-none a e h = absurd (h (subst Is-none e tt))
+
 none-read : (b : Bool) → pick b r-read r-none ≡ r-none → b ≡ false
 none-read true e = absurd (subst Is-none (sym e) tt)
 none-read false e = refl
+
 none-write : (b : Bool) (c : ℕ) → pick b (r-write c) r-none ≡ r-none → b ≡ false
 none-write true c e = absurd (subst Is-none (sym e) tt)
 none-write false c e = refl
+
 read-read : (b : Bool) → pick b r-read r-none ≡ r-read → b ≡ true
 read-read true e = refl
 read-read false e = absurd (subst Is-read (sym e) tt)
+
 write-read : (b : Bool) (c : ℕ) → pick b (r-write c) r-none ≡ r-read → ⊥
 write-read true c e = subst Is-read (sym e) tt
 write-read false c e = subst Is-read (sym e) tt
+
 read-write : (b : Bool) (c : ℕ) → pick b r-read r-none ≡ r-write c → ⊥
 read-write true c e = subst (Is-write c) (sym e) refl
 read-write false c e = subst (Is-write c) (sym e) refl
+
 write-write : (b : Bool) (d c : ℕ) → pick b (r-write d) r-none ≡ r-write c → (b ≡ true) × (d ≡ c)
 write-write true d c e = (refl, subst (Is-write c) (sym e) refl)
 write-write false d c e = absurd (subst (Is-write c) (sym e) refl)
+
 read-waits : (s : System) (d : ℕ) (f : System → ℕ → Option StepResult) (z : Option StepResult) → read-byte s d ≡ must-wait → read-or s d f z ≡ none
 read-waits s d f z e = rw e
--- nothing there yet: no turn
+
+-- nothing there yet: no step
 pub waits-read : (s x : System) (w v : Process) (u u′ : Builtin) (ρ : Bool → ℕ → ℕ → Type 0) → Like-builtin ρ false u u′ → builtin-request x v u′ ≡ r-read → read-byte s (builtin-source w u) ≡ must-wait → step-builtin s w u ≡ none
 waits-read s x w v u u′ ρ l-done a e = absurd (subst Is-read (sym a) tt)
 waits-read s x w v u u′ ρ (l-print {bs = []} h) a e = absurd (subst Is-read (sym a) tt)
@@ -241,10 +271,13 @@ waits-read s x w v u u′ ρ l-grep a e = read-waits s _ _ _ e
 waits-read s x w v u u′ ρ l-seq a e = absurd (subst Is-read (sym a) tt)
 waits-read s x w v u u′ ρ l-yes a e = absurd (subst Is-read (sym a) tt)
 waits-read s x w v u u′ ρ l-read a e = read-waits s _ _ _ e
+
 print-waits : (s : System) (w : Process) (b : ℕ) (bs : List ℕ) (u : Builtin) → write-byte s (w .stdout) b ≡ pipe-full → print-byte s w (b ∷ bs) u ≡ none
 print-waits s w b bs u e = rw e
+
 print-exits : (s : System) (w : Process) (b : ℕ) (bs : List ℕ) (u : Builtin) → write-byte s (w .stdout) b ≡ no-reader → print-byte s w (b ∷ bs) u ≡ some (exits 141 s)
 print-exits s w b bs u e = rw e
+
 pub waits-write : (s x : System) (w v : Process) (c : ℕ) (u u′ : Builtin) (ρ : Bool → ℕ → ℕ → Type 0) → Like-builtin ρ false u u′ → builtin-request x v u′ ≡ r-write c → (is-host-paper (nth (x .handles) (v .stdout)) ≡ true) × (write-byte s (w .stdout) c ≡ pipe-full → step-builtin s w u ≡ none) × (write-byte s (w .stdout) c ≡ no-reader → step-builtin s w u ≡ some (exits 141 s))
 waits-write s x w v c u u′ ρ l-done a = absurd (subst (Is-write c) (sym a) refl)
 waits-write s x w v c u u′ ρ (l-print {bs = []} h) a = absurd (subst (Is-write c) (sym a) refl)
@@ -258,46 +291,61 @@ waits-write s x w v c u u′ ρ l-grep a = absurd (read-write _ c a)
 waits-write s x w v c u u′ ρ l-seq a = absurd (subst (Is-write c) (sym a) refl)
 waits-write s x w v c u u′ ρ l-yes a = absurd (subst (Is-write c) (sym a) refl)
 waits-write s x w v c u u′ ρ l-read a = absurd (read-write _ c a)
+
 pub record Local : Type 0 where
   pub system : System
   pub process : Process
+
 abbrev pub as-input : Option ℕ → List ℕ
 as-input none = []
 as-input (some b) = b ∷ []
+
 abbrev pub after-step : Local → Option StepResult → Local
 after-step y none = y
 after-step y (some (continues v x)) = record { system = x; process = v }
 after-step y (some (exits n x)) = y
+
 abbrev pub own-action : Option StepResult → Action Local
 own-action none = finished 0
 own-action (some (continues v x)) = silent (record { system = x; process = v })
 own-action (some (exits n x)) = finished n
+
 abbrev pub respond : Local → Request → Action Local
 respond y r-none = own-action (step (y .system) (y .process))
 respond y r-read = reading (λ r. after-step y (step (with-input (y .system) (as-input r)) (y .process)))
 respond y (r-write b) = writing b (after-step y (step (y .system) (y .process)))
+
 abbrev pub local-step : Local → Action Local
 local-step y = respond y (request (y .system) (y .process) (y .process .control))
+
 module _ (i0 o0 : Handle) (ki : Input-handle i0) (ko : Output-handle o0) (table : List ℕ) (s : System) where
   abbrev pub extended : List ℕ
   extended = table ++ (length (s .handles) ∷ [])
+
   abbrev pub ρ : Bool → ℕ → ℕ → Type 0
   ρ z i a = nth (pick z extended table) a ≡ some i
+
   pub record Q (t y : System) : Type 0 where
     pub agrees : Agrees i0 o0 table t y
     pub frame : Preserves table s t
     pub level : length (t .handles) ≡ length (s .handles)
+
   pub record Q′ (t y : System) : Type 0 where
     pub agrees : Agrees i0 o0 extended t y
     pub frame : Preserves table s t
+
   pub qf : (t y : System) → Q t y → t .files ≡ y .files
   qf t y q = q .agrees .files
+
   pub cf : (t y : System) (fs : List File) → Q t y → Q (with-files t fs) (with-files y fs)
   cf t y fs q = record { agrees = record { len = q .agrees .len; within = q .agrees .within; once = q .agrees .once; alike = q .agrees .alike; files = refl }; frame = record { processes = q .frame .processes; next1 = q .frame .next1; pipes = q .frame .pipes; input = q .frame .input; paper = q .frame .paper; exited = q .frame .exited; longer = q .frame .longer; others = q .frame .others }; level = q .level }
+
   pub fr : (t y : System) → Q t y → ρ true (length (t .handles)) (length (y .handles))
   fr t y q = ap (λ n. nth extended n) (sym (q .agrees .len)) ∙ nth-new table (length (s .handles)) ∙ ap some (sym (q .level))
+
   pub up : (i j : ℕ) → ρ false i j → ρ true i j
   up i j e = nth-old table _ j (nth-lt table j i e) ∙ e
+
   alike-private : (o : Handle) → Private o → Alike i0 o0 (some o) (some o)
   alike-private (file-read x n) h = refl
   alike-private (file-append x) h = refl
@@ -306,22 +354,27 @@ module _ (i0 o0 : Handle) (ki : Input-handle i0) (ko : Output-handle o0) (table 
   alike-private host-input h = absurd h
   alike-private host-paper h = absurd h
   alike-private (here-text bs) h = refl
+
   pub two : (p p′ q q′ : Option Handle) → p ≡ p′ → q ≡ q′ → Alike i0 o0 p q → Alike i0 o0 p′ q′
   two p p′ q q′ e f h = subst (λ z. Alike i0 o0 z q′) e (subst (λ z. Alike i0 o0 p z) f h)
+
   pub oq : (t y : System) (o : Handle) → Private o → Q t y → Q′ (open-handle t o) (open-handle y o)
   oq t y o po q = record { agrees = record { len = length-snoc table _ ∙ ap (λ n. suc n) (q .agrees .len) ∙ sym (length-snoc (y .handles) o); within = λ a i e. within1 a i (nth-snoc table _ a i e); once = λ a b i e f. once1 a b i (nth-snoc table _ a i e) (nth-snoc table _ b i f); alike = λ a i e. alike1 a i (nth-snoc table _ a i e); files = q .agrees .files }; frame = record { processes = q .frame .processes; next1 = q .frame .next1; pipes = q .frame .pipes; input = q .frame .input; paper = q .frame .paper; exited = q .frame .exited; longer = omega (arith, length-snoc (t .handles) o, q .level); others = λ i h g. nth-old (t .handles) _ i (omega (arith, q .level)) ∙ q .frame .others i h g } }
     where
       within1 : (a i : ℕ) → (nth table a ≡ some i) ⊎ ((a ≡ length table) × (i ≡ length (s .handles))) → i < length (t .handles ++ (o ∷ []))
       within1 a i (inl h) = omega (arith, q .agrees .within a i h, length-snoc (t .handles) o)
       within1 a i (inr h) = omega (arith, h .1, q .level, length-snoc (t .handles) o)
+
       once1 : (a b i : ℕ) → (nth table a ≡ some i) ⊎ ((a ≡ length table) × (i ≡ length (s .handles))) → (nth table b ≡ some i) ⊎ ((b ≡ length table) × (i ≡ length (s .handles))) → a ≡ b
       once1 a b i (inl h) (inl k) = q .agrees .once a b i h k
       once1 a b i (inl h) (inr k) = absurd (omega (arith, q .agrees .within a i h, k .1, q .level))
       once1 a b i (inr h) (inl k) = absurd (omega (arith, q .agrees .within b i k, h .1, q .level))
       once1 a b i (inr h) (inr k) = h .0 ∙ sym (k .0)
+
       alike1 : (a i : ℕ) → (nth table a ≡ some i) ⊎ ((a ≡ length table) × (i ≡ length (s .handles))) → Alike i0 o0 (nth (t .handles ++ (o ∷ [])) i) (nth (y .handles ++ (o ∷ [])) a)
       alike1 a i (inl h) = two _ _ _ _ (sym (nth-old (t .handles) _ i (q .agrees .within a i h))) (sym (nth-old (y .handles) _ a (omega (arith, nth-lt table a i h, q .agrees .len)))) (q .agrees .alike a i h)
       alike1 a i (inr h) = two _ _ _ _ (sym (ap (λ n. nth (t .handles ++ (o ∷ [])) n) (h .1 ∙ sym (q .level)) ∙ nth-new (t .handles) o)) (sym (ap (λ n. nth (y .handles ++ (o ∷ [])) n) (h .0 ∙ q .agrees .len) ∙ nth-new (y .handles) o)) (alike-private o po)
+
   -- going on in what is read by place
   put-q : (x : System) (d e : ℕ) (o : Handle) → nth table e ≡ some d → (Fixed (nth (s .handles) d) → ⊥) → Private o → Q s x → Q (with-handles s (put (s .handles) d o)) (with-handles x (put (x .handles) e o))
   put-q x d e o r nf po q = record { agrees = record { len = q .agrees .len ∙ sym (put-length (x .handles) e o); within = λ a i h. omega (arith, q .agrees .within a i h, put-length (s .handles) d o); once = q .agrees .once; alike = λ a i h. by a i h (equal-or-not i d); files = q .agrees .files }; frame = record { processes = refl; next1 = refl; pipes = refl; input = refl; paper = refl; exited = refl; longer = omega (arith, put-length (s .handles) d o); others = λ i h g. oth i g (equal-or-not i d) }; level = put-length (s .handles) d o }
@@ -329,24 +382,31 @@ module _ (i0 o0 : Handle) (ki : Input-handle i0) (ko : Output-handle o0) (table 
       by : (a i : ℕ) → nth table a ≡ some i → (i ≡ d) ⊎ (i ≡ d → ⊥) → Alike i0 o0 (nth (put (s .handles) d o) i) (nth (put (x .handles) e o) a)
       by a i h (inl p) = two _ _ _ _ (sym (ap (λ n. nth (put (s .handles) d o) n) p ∙ put-same (s .handles) d o (q .agrees .within e d r))) (sym (ap (λ n. nth (put (x .handles) e o) n) (q .agrees .once a e d (h ∙ ap some p) r) ∙ put-same (x .handles) e o (omega (arith, nth-lt table e d r, q .agrees .len)))) (alike-private o po)
       by a i h (inr p) = two _ _ _ _ (sym (put-other (s .handles) d i o (λ z. p (sym z)))) (sym (put-other (x .handles) e a o (λ z. p (inside (sym h ∙ ap (λ n. nth table n) (sym z) ∙ r))))) (q .agrees .alike a i h)
+
       oth : (i : ℕ) → ((a : ℕ) → nth table a ≡ some i → Fixed (nth (s .handles) i)) → (i ≡ d) ⊎ (i ≡ d → ⊥) → nth (put (s .handles) d o) i ≡ nth (s .handles) i
       oth i g (inl p) = absurd (nf (subst (λ n. Fixed (nth (s .handles) n)) p (g e (r ∙ ap some (sym p)))))
       oth i g (inr p) = put-other (s .handles) d i o (λ z. p (sym z))
+
   abbrev Local-read : System → System → ReadByte → ReadByte → Type 0
   Local-read = Like-read ρ Q Q′ qf cf oq fr up
+
   abbrev Local-write : System → System → WriteByte → WriteByte → Type 0
   Local-write = Like-write ρ Q Q′ qf cf oq fr up
+
   alike-at : (x : System) (q : Q s x) (d e : ℕ) → nth table e ≡ some d → (a b : Option Handle) → nth (s .handles) d ≡ a → nth (x .handles) e ≡ b → Alike i0 o0 a b
   alike-at x q d e r a b f g = two _ _ _ _ f g (q .agrees .alike e d r)
+
   read-place : (x : System) (q : Q s x) (d e : ℕ) (n : Name) (m : ℕ) → nth table e ≡ some d → nth (s .handles) d ≡ some (file-read n m) → Local-read s x (read-handle s d (file-read n m)) (read-handle x e (file-read n m))
   read-place x q d e n m r f = subst (λ fs. Local-read s x (read-handle s d (file-read n m)) (opt (on-some (find-file fs n) (λ bs. nth bs m)) at-end (λ b. got b (with-handles x (put (x .handles) e (file-read n (suc m))))))) (q .agrees .files) (by (on-some (find-file (s .files) n) (λ bs. nth bs m)))
     where
       by : (o : Option ℕ) → Local-read s x (opt o at-end (λ b. got b (with-handles s (put (s .handles) d (file-read n (suc m)))))) (opt o at-end (λ b. got b (with-handles x (put (x .handles) e (file-read n (suc m))))))
       by none = q
       by (some b) = (refl, put-q x d e (file-read n (suc m)) r (λ h. subst Fixed f h) tt q)
+
   read-text1 : (x : System) (q : Q s x) (d e : ℕ) (bs : List ℕ) → nth table e ≡ some d → nth (s .handles) d ≡ some (here-text bs) → Local-read s x (read-text s d bs) (read-text x e bs)
   read-text1 x q d e [] r f = q
   read-text1 x q d e (b ∷ bs) r f = (refl, put-q x d e (here-text bs) r (λ h. subst Fixed f h) tt q)
+
   none-kind : (x : System) (q : Q s x) (d : ℕ) (o : Handle) → Output-handle o → Local-read s x (read-handle s d o) at-end
   none-kind x q d (file-read n m) h = absurd h
   none-kind x q d (file-append n) h = absurd h
@@ -355,6 +415,7 @@ module _ (i0 o0 : Handle) (ki : Input-handle i0) (ko : Output-handle o0) (table 
   none-kind x q d host-input h = absurd h
   none-kind x q d host-paper h = q
   none-kind x q d (here-text bs) h = absurd h
+
   read-own : (x : System) (q : Q s x) (d e : ℕ) → nth table e ≡ some d → is-host-input (nth (x .handles) e) ≡ false → Local-read s x (read-byte s d) (read-byte x e)
   read-own x q d e r ni = by (nth (s .handles) d) (nth (x .handles) e) refl refl ni
     where
@@ -372,6 +433,7 @@ module _ (i0 o0 : Handle) (ki : Input-handle i0) (ko : Output-handle o0) (table 
           no-true e = subst (λ z. Fixed (pick z none (some (here-text [])))) e tt
       by (some p) (some host-paper) f g h = let z = alike-at x q d e r (some p) (some host-paper) f g in subst (λ u. Local-read s x (read-handle s d u) at-end) (sym z) (none-kind x q d o0 ko)
       by (some p) (some (here-text bs)) f g h = let z = alike-at x q d e r (some p) (some (here-text bs)) f g in subst (λ u. Local-read s x (read-handle s d u) (read-handle x e (here-text bs))) (sym z) (read-text1 x q d e bs r (f ∙ ap some z))
+
   wrote-kind : (x : System) (q : Q s x) (b : ℕ) (o : Handle) → Input-handle o → Local-write s x (write-handle s b o) (wrote x)
   wrote-kind x q b (file-read n m) h = absurd h
   wrote-kind x q b (file-append n) h = absurd h
@@ -380,6 +442,7 @@ module _ (i0 o0 : Handle) (ki : Input-handle i0) (ko : Output-handle o0) (table 
   wrote-kind x q b host-input h = q
   wrote-kind x q b host-paper h = absurd h
   wrote-kind x q b (here-text bs) h = absurd h
+
   write-own : (x : System) (q : Q s x) (d e b : ℕ) → nth table e ≡ some d → is-host-paper (nth (x .handles) e) ≡ false → Local-write s x (write-byte s d b) (write-byte x e b)
   write-own x q d e b r ni = by (nth (s .handles) d) (nth (x .handles) e) refl refl ni
     where
@@ -397,10 +460,13 @@ module _ (i0 o0 : Handle) (ki : Input-handle i0) (ko : Output-handle o0) (table 
           no-true : true ≡ false → ⊥
           no-true e = subst (λ z. Fixed (pick z none (some (here-text [])))) e tt
       by (some p) (some (here-text bs)) f g h = let z = alike-at x q d e r (some p) (some (here-text bs)) f g in subst (λ u. Local-write s x (write-handle s b u) (wrote x)) (sym z) q
+
   abbrev IoU : (r x : System) (w : Process) (i o : ℕ) (u v : Builtin) → Like-builtin ρ false u v → Type 0
   IoU = Io-builtin ρ Q Q′ qf cf oq fr up
+
   abbrev pub IoC : (r x : System) (w : Process) (i o : ℕ) (d e : Control) → Like-control ρ false d e → Type 0
   IoC = Io-control ρ Q Q′ qf cf oq fr up
+
   own-u : (x : System) (q : Q s x) (w v : Process) → ρ false (w .stdin) (v .stdin) → ρ false (w .stdout) (v .stdout) → (u u′ : Builtin) (l : Like-builtin ρ false u u′) → builtin-request x v u′ ≡ r-none → IoU s x w (v .stdin) (v .stdout) u u′ l
   own-u x q w v hi ho u u′ l-done a = q
   own-u x q w v hi ho u u′ (l-print {bs = []} h) a = q
@@ -414,6 +480,7 @@ module _ (i0 o0 : Handle) (ki : Input-handle i0) (ko : Output-handle o0) (table 
   own-u x q w v hi ho u u′ l-seq a = q
   own-u x q w v hi ho u u′ l-yes a = q
   own-u x q w v hi ho u u′ l-read a = read-own x q (w .stdin) (v .stdin) hi (none-read _ a)
+
   pub own-c : (x : System) (q : Q s x) (w v : Process) → ρ false (w .stdin) (v .stdin) → ρ false (w .stdout) (v .stdout) → (c c′ : Control) (l : Like-control ρ false c c′) → request x v c′ ≡ r-none → IoC s x w (v .stdin) (v .stdout) c c′ l
   own-c x q w v hi ho c c′ l-list a = q
   own-c x q w v hi ho c c′ l-and-or a = q
@@ -426,6 +493,7 @@ module _ (i0 o0 : Handle) (ki : Input-handle i0) (ko : Output-handle o0) (table 
   own-c x q w v hi ho c c′ l-unwind a = q
   own-c x q w v hi ho c c′ l-wait a = q
   own-c x q w v hi ho c c′ (l-capture h) a = read-own x q _ _ h (none-read _ a)
+
   pub read-u : (r x y : System) (w v : Process) → ρ false (w .stdin) (v .stdin) → (u u′ : Builtin) (l : Like-builtin ρ false u u′) → builtin-request x v u′ ≡ r-read → (nth table (builtin-source v u′) ≡ some (builtin-source w u)) × (is-host-input (nth (x .handles) (builtin-source v u′)) ≡ true) × (Local-read r y (read-byte r (builtin-source w u)) (read-byte y (builtin-source v u′)) → IoU r y w (v .stdin) (v .stdout) u u′ l)
   read-u r x y w v hi u u′ l-done a = absurd (subst Is-read (sym a) tt)
   read-u r x y w v hi u u′ (l-print {bs = []} h) a = absurd (subst Is-read (sym a) tt)
@@ -439,6 +507,7 @@ module _ (i0 o0 : Handle) (ki : Input-handle i0) (ko : Output-handle o0) (table 
   read-u r x y w v hi u u′ l-seq a = absurd (subst Is-read (sym a) tt)
   read-u r x y w v hi u u′ l-yes a = absurd (subst Is-read (sym a) tt)
   read-u r x y w v hi u u′ l-read a = (hi, read-read _ a, λ g. g)
+
   pub write-u : (r x y : System) (w v : Process) (c : ℕ) (u u′ : Builtin) (l : Like-builtin ρ false u u′) → builtin-request x v u′ ≡ r-write c → Local-write r y (write-byte r (w .stdout) c) (write-byte y (v .stdout) c) → IoU r y w (v .stdin) (v .stdout) u u′ l
   write-u r x y w v c u u′ l-done a g = absurd (subst (Is-write c) (sym a) refl)
   write-u r x y w v c u u′ (l-print {bs = []} h) a g = absurd (subst (Is-write c) (sym a) refl)
@@ -452,14 +521,17 @@ module _ (i0 o0 : Handle) (ki : Input-handle i0) (ko : Output-handle o0) (table 
   write-u r x y w v c u u′ l-seq a g = absurd (subst (Is-write c) (sym a) refl)
   write-u r x y w v c u u′ l-yes a g = absurd (subst (Is-write c) (sym a) refl)
   write-u r x y w v c u u′ l-read a g = absurd (read-write _ c a)
--- who reads doesn't leave in that turn, nor who writes and finds room
+
+-- who reads doesn't leave in that step, nor who writes and finds room
 abbrev Continues : Option StepResult → Type 0
 Continues none = Unit {0}
 Continues (some (continues w s)) = Unit {0}
 Continues (some (exits n s)) = ⊥
+
 continues-pick : (b : Bool) (x y : Option StepResult) → Continues x → Continues y → Continues (pick b x y)
 continues-pick true x y h k = h
 continues-pick false x y h k = k
+
 read-or-continues : (s : System) (d : ℕ) (f : System → ℕ → Option StepResult) (z : Option StepResult) → ((t : System) (b : ℕ) → Continues (f t b)) → Continues z → Continues (read-or s d f z)
 read-or-continues s d f z k h = by (read-byte s d) refl
   where
@@ -467,9 +539,11 @@ read-or-continues s d f z k h = by (read-byte s d) refl
     by (got b t) e = rw e (k t b)
     by at-end e = rw e h
     by must-wait e = rw e tt
+
 grep-last-continues : (s : System) (w : Process) (p l : List ℕ) (f : Bool) → Continues (grep-last s w p l f)
 grep-last-continues s w p [] f = tt
 grep-last-continues s w p (c ∷ cs) f = search continues-pick
+
 pub read-continues : (s x : System) (w v : Process) (u u′ : Builtin) (ρ : Bool → ℕ → ℕ → Type 0) → Like-builtin ρ false u u′ → builtin-request x v u′ ≡ r-read → Continues (step-builtin s w u)
 read-continues s x w v u u′ ρ l-done a = absurd (subst Is-read (sym a) tt)
 read-continues s x w v u u′ ρ (l-print {bs = []} h) a = absurd (subst Is-read (sym a) tt)
@@ -483,8 +557,10 @@ read-continues s x w v u u′ ρ (l-grep {p = p} {l = l} {b = f}) a = read-or-co
 read-continues s x w v u u′ ρ l-seq a = absurd (subst Is-read (sym a) tt)
 read-continues s x w v u u′ ρ l-yes a = absurd (subst Is-read (sym a) tt)
 read-continues s x w v u u′ ρ l-read a = read-or-continues s _ _ _ (λ t b. continues-pick (eqb b 10) _ _ tt tt) tt
+
 print-continues : (s t : System) (w : Process) (b : ℕ) (bs : List ℕ) (u : Builtin) → write-byte s (w .stdout) b ≡ wrote t → Continues (print-byte s w (b ∷ bs) u)
 print-continues s t w b bs u e = rw e tt
+
 pub write-continues : (s t x : System) (w v : Process) (c : ℕ) (u u′ : Builtin) (ρ : Bool → ℕ → ℕ → Type 0) → Like-builtin ρ false u u′ → builtin-request x v u′ ≡ r-write c → write-byte s (w .stdout) c ≡ wrote t → Continues (step-builtin s w u)
 write-continues s t x w v c u u′ ρ l-done a e = absurd (subst (Is-write c) (sym a) refl)
 write-continues s t x w v c u u′ ρ (l-print {bs = []} h) a e = absurd (subst (Is-write c) (sym a) refl)
@@ -498,6 +574,7 @@ write-continues s t x w v c u u′ ρ l-grep a e = absurd (read-write _ c a)
 write-continues s t x w v c u u′ ρ l-seq a e = absurd (subst (Is-write c) (sym a) refl)
 write-continues s t x w v c u u′ ρ l-yes a e = absurd (subst (Is-write c) (sym a) refl)
 write-continues s t x w v c u u′ ρ l-read a e = absurd (read-write _ c a)
+
 abbrev pub Not-capture : Control → Type 0
 Not-capture (at-list l) = Unit {0}
 Not-capture (at-and-or a) = Unit {0}
@@ -510,9 +587,11 @@ Not-capture (at-status n) = Unit {0}
 Not-capture (at-unwind t n) = Unit {0}
 Not-capture (at-wait ps) = Unit {0}
 Not-capture (at-capture d bs q a y) = ⊥
+
 -- who reads or writes is a command at work
 data Builtin-of (ρ : Bool → ℕ → ℕ → Type 0) : (c c′ : Control) → Like-control ρ false c c′ → Type 0 where
   builtin-of : {u u′ : Builtin} (h : Like-builtin ρ false u u′) → Builtin-of ρ (at-builtin u) (at-builtin u′) (l-builtin h)
+
 is-builtin : (ρ : Bool → ℕ → ℕ → Type 0) (x : System) (v : Process) (c c′ : Control) (l : Like-control ρ false c c′) → Not-capture c → (Is-none (request x v c′) → ⊥) → Builtin-of ρ c c′ l
 is-builtin ρ x v c c′ l-list n a = absurd (a tt)
 is-builtin ρ x v c c′ l-and-or n a = absurd (a tt)
@@ -525,10 +604,12 @@ is-builtin ρ x v c c′ l-status n a = absurd (a tt)
 is-builtin ρ x v c c′ l-unwind n a = absurd (a tt)
 is-builtin ρ x v c c′ l-wait n a = absurd (a tt)
 is-builtin ρ x v c c′ (l-capture h) n a = absurd n
--- how a turn looks from outside
+
+-- how a step looks from outside
 pub record Simulates (i0 o0 : Handle) (table : List ℕ) (s : System) (w : Process) (y : Local) : Type 0 where
   pub like : Like-process (Table table) false w (y .process)
   pub agrees : Agrees i0 o0 table s (y .system)
+
 abbrev pub Ended : Handle → System → Type 0
 Ended (file-read x n) s = ⊥
 Ended (file-append x) s = ⊥
@@ -537,14 +618,17 @@ Ended (pipe-write p) s = ⊥
 Ended host-input s = Unit {0}
 Ended host-paper s = ⊥
 Ended (here-text bs) s = ⊥
+
 pub data Effect (i0 o0 : Handle) (s : System) : Event → System → Type 0 where
   x-silent : Effect i0 o0 s e-silent s
   x-read : {p b : ℕ} {bs : List ℕ} → i0 ≡ pipe-read p → nth (s .pipes) p ≡ some (b ∷ bs) → Effect i0 o0 s (e-read (some b)) (with-pipes s (put (s .pipes) p bs))
   x-end : Ended i0 s → Effect i0 o0 s (e-read none) s
   x-paper : {b : ℕ} → o0 ≡ host-paper → Effect i0 o0 s (e-write b) (with-paper s (s .paper ++ (b ∷ [])))
   x-pipe : {p b : ℕ} {bs : List ℕ} → o0 ≡ pipe-write p → nth (s .pipes) p ≡ some bs → Effect i0 o0 s (e-write b) (with-pipes s (put (s .pipes) p (bs ++ (b ∷ []))))
+
 abbrev pub Grown : List ℕ → System → List ℕ → System → Type 0
 Grown table s table′ t = (table′ ≡ table) ⊎ (table′ ≡ table ++ (length (s .handles) ∷ []))
+
 pub record Moved (i0 o0 : Handle) (table : List ℕ) (s : System) (y : Local) (v : Process) (t : System) : Type 0 where
   pub ev : Event
   pub to : Local
@@ -555,9 +639,11 @@ pub record Moved (i0 o0 : Handle) (table : List ℕ) (s : System) (y : Local) (v
   pub simulates : Simulates i0 o0 table′ t v to
   pub frame : Preserves table mid t
   pub grown : Grown table s table′ t
+
 abbrev pub Simulated : Handle → Handle → List ℕ → System → Local → StepResult → Type 0
 Simulated i0 o0 table s y (continues v t) = Moved i0 o0 table s y v t
 Simulated i0 o0 table s y (exits n t) = ((local-step y ≡ finished n) × Preserves table s t) ⊎ ((n ≡ 141) × (t ≡ s) × ((p : ℕ) × (o0 ≡ pipe-write p) × (held (s .handles) (reads-pipe p) (s .processes) ≡ false)))
+
 abbrev pub Has-in : Handle → System → Type 0
 Has-in (file-read x n) s = ⊥
 Has-in (file-append x) s = ⊥
@@ -566,6 +652,7 @@ Has-in (pipe-write p) s = ⊥
 Has-in host-input s = Unit {0}
 Has-in host-paper s = ⊥
 Has-in (here-text bs) s = ⊥
+
 abbrev pub Has-out : Handle → System → Type 0
 Has-out (file-read x n) s = ⊥
 Has-out (file-append x) s = ⊥
@@ -574,19 +661,25 @@ Has-out (pipe-write p) s = (bs : List ℕ) × (nth (s .pipes) p ≡ some bs)
 Has-out host-input s = ⊥
 Has-out host-paper s = Unit {0}
 Has-out (here-text bs) s = ⊥
+
 twin-is : (ρ : Bool → ℕ → ℕ → Type 0) (w v : Process) → Like-process ρ false w v → twin ρ w (v .pid) (v .control) (v .frames) (v .stdin) (v .stdout) ≡ v
 twin-is ρ w v h = λ i. record { pid = v .pid; control = v .control; frames = v .frames; stdin = v .stdin; stdout = v .stdout; variables = sym (h .variables) i; functions = sym (h .functions) i; arguments = sym (h .arguments) i; status = sym (h .status) i; jobs = sym (h .jobs) i }
+
 module _ (i0 o0 : Handle) (ki : Input-handle i0) (ko : Output-handle o0) (table : List ℕ) where
-  -- both take the turn: with the same answer from outside (mid: after it)
+  -- both take the step: with the same answer from outside (mid: after it)
   abbrev LI : System → Option StepResult → Option StepResult → Type 0
   LI mid = Like-step (ρ i0 o0 ki ko table mid) (Q i0 o0 ki ko table mid) (Q′ i0 o0 ki ko table mid) (qf i0 o0 ki ko table mid) (cf i0 o0 ki ko table mid) (oq i0 o0 ki ko table mid) (fr i0 o0 ki ko table mid) (up i0 o0 ki ko table mid)
+
   as-ρ : (mid : System) (w v : Process) → Like-process (Table table) false w v → Like-process (ρ i0 o0 ki ko table mid) false w v
   as-ρ mid w v h = map-process (Table table) (ρ i0 o0 ki ko table mid) false false (λ i j e. e) w v h
+
   both-step : (s mid x : System) (w v : Process) (h : Like-process (ρ i0 o0 ki ko table mid) false w v) → Sequential (w .control) → IoC i0 o0 ki ko table mid s x w (v .stdin) (v .stdout) (w .control) (v .control) (h .control) → LI mid (step s w) (step x v)
   both-step s mid x w v h q io = subst (λ u. LI mid (step s w) (step-control x u (v .control))) (twin-is (ρ i0 o0 ki ko table mid) w v h) (step-like (ρ i0 o0 ki ko table mid) (Q i0 o0 ki ko table mid) (Q′ i0 o0 ki ko table mid) (qf i0 o0 ki ko table mid) (cf i0 o0 ki ko table mid) (oq i0 o0 ki ko table mid) (fr i0 o0 ki ko table mid) (up i0 o0 ki ko table mid) s x w (w .control) (v .control) (v .pid) (v .control) (v .frames) (v .stdin) (v .stdout) (h .frames) (h .stdin) (h .stdout) (h .control) q io)
+
   abbrev Coll : System → StepResult → Option StepResult → Type 0
   Coll mid (continues w t) o = (v : Process) × (x : System) × (o ≡ some (continues v x)) × ((table′ : List ℕ) × Simulates i0 o0 table′ t w (record { system = x; process = v }) × Preserves table mid t × Grown table mid table′ t)
   Coll mid (exits n t) o = (x : System) × (o ≡ some (exits n x)) × Preserves table mid t
+
   collect : (mid : System) (a : StepResult) (o : Option StepResult) → LI mid (some a) o → Coll mid a o
   collect mid (continues w t) none h = absurd h
   collect mid (continues w t) (some (continues v x)) (inl h) = (v, x, refl, (table, record { like = map-process (ρ i0 o0 ki ko table mid) (Table table) false false (λ i j e. e) w v (h .0); agrees = h .1 .agrees }, h .1 .frame, inl refl))
@@ -595,6 +688,7 @@ module _ (i0 o0 : Handle) (ki : Input-handle i0) (ko : Output-handle o0) (table 
   collect mid (exits n t) none h = absurd h
   collect mid (exits n t) (some (continues v x)) h = absurd h
   collect mid (exits n t) (some (exits m x)) h = (x, ap (λ z. some (exits z x)) (sym (h .0)), h .1 .frame)
+
   is-host-input-is : (o : Option Handle) → is-host-input o ≡ true → o ≡ some host-input
   is-host-input-is none e = absurd (subst (λ z. Fixed (pick z (some (here-text [])) none)) e tt)
   is-host-input-is (some (file-read x n)) e = absurd (subst (λ z. Fixed (pick z (some (here-text [])) none)) e tt)
@@ -604,6 +698,7 @@ module _ (i0 o0 : Handle) (ki : Input-handle i0) (ko : Output-handle o0) (table 
   is-host-input-is (some host-input) e = refl
   is-host-input-is (some host-paper) e = absurd (subst (λ z. Fixed (pick z (some (here-text [])) none)) e tt)
   is-host-input-is (some (here-text x)) e = absurd (subst (λ z. Fixed (pick z (some (here-text [])) none)) e tt)
+
   is-host-paper-is : (o : Option Handle) → is-host-paper o ≡ true → o ≡ some host-paper
   is-host-paper-is none e = absurd (subst (λ z. Fixed (pick z (some (here-text [])) none)) e tt)
   is-host-paper-is (some (file-read x n)) e = absurd (subst (λ z. Fixed (pick z (some (here-text [])) none)) e tt)
@@ -613,25 +708,31 @@ module _ (i0 o0 : Handle) (ki : Input-handle i0) (ko : Output-handle o0) (table 
   is-host-paper-is (some host-input) e = absurd (subst (λ z. Fixed (pick z (some (here-text [])) none)) e tt)
   is-host-paper-is (some host-paper) e = refl
   is-host-paper-is (some (here-text x)) e = absurd (subst (λ z. Fixed (pick z (some (here-text [])) none)) e tt)
+
   alike-host-input : (p : Option Handle) → Alike i0 o0 p (some host-input) → p ≡ some i0
   alike-host-input none h = absurd h
   alike-host-input (some p) h = ap some h
+
   alike-paper : (p : Option Handle) → Alike i0 o0 p (some host-paper) → p ≡ some o0
   alike-paper none h = absurd h
   alike-paper (some p) h = ap some h
+
   data Answer (s : System) (d : ℕ) : Type 0 where
     read1 : {p b : ℕ} {bs : List ℕ} → i0 ≡ pipe-read p → nth (s .pipes) p ≡ some (b ∷ bs) → read-byte s d ≡ got b (with-pipes s (put (s .pipes) p bs)) → Answer s d
     none1 : Ended i0 s → read-byte s d ≡ at-end → Answer s d
     wait1 : read-byte s d ≡ must-wait → Answer s d
+
   answer : (s : System) (d : ℕ) → nth (s .handles) d ≡ some i0 → Has-in i0 s → s .input ≡ [] → Answer s d
   answer s d e h z = by i0 refl h
     where
       held-by : (p : ℕ) (c : Bool) → i0 ≡ pipe-read p → nth (s .pipes) p ≡ some [] → held (s .handles) (writes-pipe p) (s .processes) ≡ c → read-byte s d ≡ pick c must-wait at-end → Answer s d
       held-by p true f g k r = wait1 r
       held-by p false f g k r = none1 (subst (λ o. Ended o s) (sym f) (g, k)) r
+
       pipe1 : (p : ℕ) (bs : List ℕ) → i0 ≡ pipe-read p → nth (s .pipes) p ≡ some bs → read-byte s d ≡ read-pipe s p bs → Answer s d
       pipe1 p [] f g r = held-by p (held (s .handles) (writes-pipe p) (s .processes)) f g refl r
       pipe1 p (b ∷ bs) f g r = read1 f g r
+
       by : (o : Handle) → i0 ≡ o → Has-in o s → Answer s d
       by (file-read x n) f k = absurd k
       by (file-append x) f k = absurd k
@@ -640,11 +741,13 @@ module _ (i0 o0 : Handle) (ki : Input-handle i0) (ko : Output-handle o0) (table 
       by host-input f k = none1 (subst (λ o. Ended o s) (sym f) tt) (ap (λ q. opt q at-end (read-handle s d)) (e ∙ ap some f) ∙ ap (read-input s) z)
       by host-paper f k = absurd k
       by (here-text bs) f k = absurd k
+
   data Taken (s : System) (d b : ℕ) : Type 0 where
     paper1 : o0 ≡ host-paper → write-byte s d b ≡ wrote (with-paper s (s .paper ++ (b ∷ []))) → Taken s d b
     pipe2 : {p : ℕ} {bs : List ℕ} → o0 ≡ pipe-write p → nth (s .pipes) p ≡ some bs → write-byte s d b ≡ wrote (with-pipes s (put (s .pipes) p (bs ++ (b ∷ [])))) → Taken s d b
     full1 : write-byte s d b ≡ pipe-full → Taken s d b
     dead1 : {p : ℕ} → o0 ≡ pipe-write p → held (s .handles) (reads-pipe p) (s .processes) ≡ false → write-byte s d b ≡ no-reader → Taken s d b
+
   taken : (s : System) (d b : ℕ) → nth (s .handles) d ≡ some o0 → Has-out o0 s → Taken s d b
   taken s d b e h = by o0 refl h
     where
@@ -652,6 +755,7 @@ module _ (i0 o0 : Handle) (ki : Input-handle i0) (ko : Output-handle o0) (table 
       pipe3 p bs true true f g k r = pipe2 f g r
       pipe3 p bs true false f g k r = full1 r
       pipe3 p bs false c f g k r = dead1 f k r
+
       by : (o : Handle) → o0 ≡ o → Has-out o s → Taken s d b
       by (file-read x n) f k = absurd k
       by (file-append x) f k = absurd k
@@ -660,28 +764,37 @@ module _ (i0 o0 : Handle) (ki : Input-handle i0) (ko : Output-handle o0) (table 
       by host-input f k = absurd k
       by host-paper f k = paper1 f (ap (λ q. opt q no-reader (write-handle s b)) (e ∙ ap some f))
       by (here-text bs) f k = absurd k
+
   q-mid : (s x mid z : System) → mid .handles ≡ s .handles → mid .files ≡ s .files → z .handles ≡ x .handles → z .files ≡ x .files → Agrees i0 o0 table s x → Q i0 o0 ki ko table mid mid z
   q-mid s x mid z e f g h t = record { agrees = record { len = t .len ∙ ap length (sym g); within = λ a i r. subst (λ os. i < length os) (sym e) (t .within a i r); once = t .once; alike = λ a i r. two i0 o0 ki ko table mid _ _ _ _ (ap (λ os. nth os i) (sym e)) (ap (λ os. nth os a) (sym g)) (t .alike a i r); files = f ∙ t .files ∙ sym h }; frame = preserves-self table mid; level = refl }
+
   abbrev IoM : (mid r x : System) (w : Process) (i o : ℕ) (d e : Control) → Like-control (ρ i0 o0 ki ko table mid) false d e → Type 0
   IoM mid = IoC i0 o0 ki ko table mid
+
   read-c : (mid r x z : System) (w v : Process) → nth table (v .stdin) ≡ some (w .stdin) → (c c′ : Control) (l : Like-control (ρ i0 o0 ki ko table mid) false c c′) → Builtin-of (ρ i0 o0 ki ko table mid) c c′ l → request x v c′ ≡ r-read → (nth table (control-source v c′) ≡ some (control-source w c)) × (is-host-input (nth (x .handles) (control-source v c′)) ≡ true) × (Like-read (ρ i0 o0 ki ko table mid) (Q i0 o0 ki ko table mid) (Q′ i0 o0 ki ko table mid) (qf i0 o0 ki ko table mid) (cf i0 o0 ki ko table mid) (oq i0 o0 ki ko table mid) (fr i0 o0 ki ko table mid) (up i0 o0 ki ko table mid) r z (read-byte r (control-source w c)) (read-byte z (control-source v c′)) → IoM mid r z w (v .stdin) (v .stdout) c c′ l) × (read-byte r (control-source w c) ≡ must-wait → step-control r w c ≡ none) × Continues (step-control r w c)
   read-c mid r x z w v hi c c′ l (builtin-of {u = u} {u′ = u′} h) a = let k = read-u i0 o0 ki ko table mid r x z w v hi u u′ h a in (k .0, k .1, k .2, waits-read r x w v u u′ _ h a, read-continues r x w v u u′ _ h a)
+
   write-c : (mid r x z : System) (w v : Process) (b : ℕ) (c c′ : Control) (l : Like-control (ρ i0 o0 ki ko table mid) false c c′) → Builtin-of (ρ i0 o0 ki ko table mid) c c′ l → request x v c′ ≡ r-write b → (Like-write (ρ i0 o0 ki ko table mid) (Q i0 o0 ki ko table mid) (Q′ i0 o0 ki ko table mid) (qf i0 o0 ki ko table mid) (cf i0 o0 ki ko table mid) (oq i0 o0 ki ko table mid) (fr i0 o0 ki ko table mid) (up i0 o0 ki ko table mid) r z (write-byte r (w .stdout) b) (write-byte z (v .stdout) b) → IoM mid r z w (v .stdin) (v .stdout) c c′ l) × (is-host-paper (nth (x .handles) (v .stdout)) ≡ true) × (write-byte r (w .stdout) b ≡ pipe-full → step-control r w c ≡ none) × (write-byte r (w .stdout) b ≡ no-reader → step-control r w c ≡ some (exits 141 r)) × ((t : System) → write-byte r (w .stdout) b ≡ wrote t → Continues (step-control r w c))
   write-c mid r x z w v b c c′ l (builtin-of {u = u} {u′ = u′} h) a = let k = waits-write r x w v b u u′ _ h a in (write-u i0 o0 ki ko table mid r x z w v b u u′ h a, k .0, k .1, k .2, λ t e. write-continues r t x w v b u u′ _ h a e)
-  -- a turn from a system of its own, seen from outside
+
+  -- a step from a system of its own, seen from outside
   to-did : (s mid : System) (y : Local) (e : Event) (z : System) (o : StepResult) → mid .handles ≡ s .handles → Effect i0 o0 s e mid → ((v : Process) (x : System) → step z (y .process) ≡ some (continues v x) → Fires Local local-step y e (record { system = x; process = v })) → Continues (some o) → Coll mid o (step z (y .process)) → Simulated i0 o0 table s y o
   to-did s mid y e z (continues w t) eo x g k c = record { ev = e; to = record { system = c .1; process = c .0 }; continues1 = g (c .0) (c .1) (c .2); mid = mid; ext = x; table′ = c .3 .0; simulates = c .3 .1; frame = c .3 .2; grown = subst (λ os. (c .3 .0 ≡ table) ⊎ (c .3 .0 ≡ table ++ (length os ∷ []))) eo (c .3 .3) }
   to-did s mid y e z (exits n t) eo x g k c = absurd k
+
   own-did : (s : System) (y : Local) (o : StepResult) → request (y .system) (y .process) (y .process .control) ≡ r-none → Coll s o (step (y .system) (y .process)) → Simulated i0 o0 table s y o
   own-did s y (continues w t) f c = to-did s s y e-silent (y .system) (continues w t) refl x-silent (λ v x h. ap (respond y) f ∙ ap own-action h) tt c
   own-did s y (exits n t) f c = inl (ap (respond y) f ∙ ap own-action (c .1), c .2)
+
   both-none : {A : Type 0} (s : System) (w : Process) (a : StepResult) → step s w ≡ some a → step s w ≡ none → A
   both-none s w a e f = absurd (no-some (sym f ∙ e))
+
   pub simulate : (s : System) (w : Process) (y : Local) → Simulates i0 o0 table s w y → Sequential (w .control) → Not-capture (w .control) → s .input ≡ [] → Has-in i0 s → Has-out o0 s → (a : StepResult) → step s w ≡ some a → Simulated i0 o0 table s y a
   simulate s w y l q ng z hi ho a e = by (request (y .system) (y .process) (y .process .control)) refl
     where
       lw : (mid : System) → Like-process (ρ i0 o0 ki ko table mid) false w (y .process)
       lw mid = as-ρ mid w (y .process) (l .like)
+
       at-read : (request (y .system) (y .process) (y .process .control) ≡ r-read) → Answer s (control-source w (w .control)) → Simulated i0 o0 table s y a
       at-read f (read1 {p = p} {b = b} {bs = bs} g h r) =
           let mid = with-pipes s (put (s .pipes) p bs) in
@@ -703,6 +816,7 @@ module _ (i0 o0 : Handle) (ki : Input-handle i0) (ko : Output-handle o0) (table 
       at-read f (wait1 r) =
           let u = is-builtin (ρ i0 o0 ki ko table s) (y .system) (y .process) (w .control) (y .process .control) (lw s .control) ng (λ k. subst Is-none f k) in
           both-none s w a e (read-c s s (y .system) s w (y .process) (lw s .stdin) (w .control) (y .process .control) (lw s .control) u f .3 r)
+
       wrote-did : (b : ℕ) (mid : System) → request (y .system) (y .process) (y .process .control) ≡ r-write b → mid .handles ≡ s .handles → mid .files ≡ s .files → Effect i0 o0 s (e-write b) mid → write-byte s (w .stdout) b ≡ wrote mid → Simulated i0 o0 table s y a
       wrote-did b mid f eo ef x r =
           let u = is-builtin (ρ i0 o0 ki ko table mid) (y .system) (y .process) (w .control) (y .process .control) (lw mid .control) ng (λ k. subst Is-none f k) in
@@ -712,6 +826,7 @@ module _ (i0 o0 : Handle) (ki : Input-handle i0) (ko : Output-handle o0) (table 
           let io = k .0 (subst (λ g. Like-write (ρ i0 o0 ki ko table mid) (Q i0 o0 ki ko table mid) (Q′ i0 o0 ki ko table mid) (qf i0 o0 ki ko table mid) (cf i0 o0 ki ko table mid) (oq i0 o0 ki ko table mid) (fr i0 o0 ki ko table mid) (up i0 o0 ki ko table mid) s (y .system) g (write-byte (y .system) (y .process .stdout) b)) (sym r) (subst (λ g. Like-write (ρ i0 o0 ki ko table mid) (Q i0 o0 ki ko table mid) (Q′ i0 o0 ki ko table mid) (qf i0 o0 ki ko table mid) (cf i0 o0 ki ko table mid) (oq i0 o0 ki ko table mid) (fr i0 o0 ki ko table mid) (up i0 o0 ki ko table mid) s (y .system) (wrote mid) g) (sym pr) (q-mid s (y .system) mid z eo ef refl refl (l .agrees)))) in
           let c = collect mid a (step (y .system) (y .process)) (subst (λ o. LI mid o (step (y .system) (y .process))) e (both-step s mid (y .system) w (y .process) (lw mid) q io)) in
           to-did s mid y (e-write b) (y .system) a eo x (λ v x m. ap (respond y) f ∙ ap (λ o. writing b (after-step y o)) m) (subst Continues e (k .4 mid r)) c
+
       at-write : (b : ℕ) → request (y .system) (y .process) (y .process .control) ≡ r-write b → Taken s (w .stdout) b → Simulated i0 o0 table s y a
       at-write b f (paper1 g r) = wrote-did b _ f refl refl (x-paper g) r
       at-write b f (pipe2 g h r) = wrote-did b _ f refl refl (x-pipe g h) r
@@ -722,6 +837,7 @@ module _ (i0 o0 : Handle) (ki : Input-handle i0) (ko : Output-handle o0) (table 
           let u = is-builtin (ρ i0 o0 ki ko table s) (y .system) (y .process) (w .control) (y .process .control) (lw s .control) ng (λ k. subst Is-none f k) in
           let k = write-c s s (y .system) s w (y .process) b (w .control) (y .process .control) (lw s .control) u f .3 r in
           subst (λ o. Simulated i0 o0 table s y o) (inside (sym k ∙ e)) (inr (refl, refl, (p, g, h)))
+
       by : (k : Request) → request (y .system) (y .process) (y .process .control) ≡ k → Simulated i0 o0 table s y a
       by r-none f = own-did s y a f (collect s a (step (y .system) (y .process)) (subst (λ o. LI s o (step (y .system) (y .process))) e (both-step s s (y .system) w (y .process) (lw s) q (own-c i0 o0 ki ko table s (y .system) (q-mid s (y .system) s (y .system) refl refl refl refl (l .agrees)) w (y .process) (lw s .stdin) (lw s .stdout) (w .control) (y .process .control) (lw s .control) f))))
       by r-read f =

@@ -33,9 +33,11 @@ use Rattle.confluence.proofs.Substitution.{kid, run-sys, new-lv, run-birth, Dr
 abbrev pub levels : List Lv → List Level
 levels [] = []
 levels (v ∷ vs) = v .lev ∷ levels vs
+
 -- the processes below r are those that capture
 abbrev pub Known : System → ℕ → List Lv → Type 0
 Known s r vs = (q : ℕ) (w : Process) → find-process (s .processes) q ≡ some w → q < r → Mem q vs
+
 pub record Running (s : System) (vs : List Lv) (y : Local) (base : List ℕ) : Type 0 where
   pub r : ℕ
   pub k : Sink
@@ -45,6 +47,7 @@ pub record Running (s : System) (vs : List Lv) (y : Local) (base : List ℕ) : T
   pub apart : All-apart (alone .table) s vs
   pub known : Known s r vs
   pub sum : sunk k s ≡ base
+
 pub record Busy (s : System) (vs : List Lv) (y : Local) (base : List ℕ) : Type 0 where
   pub r : ℕ
   pub k : Sink
@@ -70,6 +73,7 @@ pub record Busy (s : System) (vs : List Lv) (y : Local) (base : List ℕ) : Type
   pub lowp : Low-p k q
   pub low : Below k r
   pub known : Known s r vs
+
 pub record Draining (s : System) (vs : List Lv) (y : Local) (base : List ℕ) : Type 0 where
   pub v : Lv
   pub total : List ℕ
@@ -78,6 +82,7 @@ pub record Draining (s : System) (vs : List Lv) (y : Local) (base : List ℕ) : 
   pub known : Known s (v .pid) vs
   pub resumes : y ≡ printed (v .lev .y) (s .files) (v .lev .q) (v .lev .x) (v .lev .z) total
   pub before : base ≡ v .lev .base
+
 abbrev pub State : System → List Lv → Local → List ℕ → Type 0
 State s vs y base = Running s vs y base ⊎ (Busy s vs y base ⊎ Draining s vs y base)
 
@@ -89,20 +94,24 @@ order q r = by (ltb q r) (ltb r q) refl refl
     by true y e f = inl (grind arith)
     by false true e f = inr (inr (grind arith))
     by false false e f = inr (inl (grind arith))
+
 pub no-move : (s t : System) (q : ℕ) → find-process (s .processes) q ≡ none → move s q ≡ some t → ⊥
 no-move s t q e mv = no-some (ap (λ z. on-some z (λ w. on-some (step s w) (λ o. some (settle w o)))) (sym e) ∙ mv)
+
 pub mover : (s t : System) (q : ℕ) → move s q ≡ some t → (w : Process) × (find-process (s .processes) q ≡ some w)
 mover s t q mv = by (find-process (s .processes) q) refl
   where
     by : (o : Option Process) → find-process (s .processes) q ≡ o → (w : Process) × (find-process (s .processes) q ≡ some w)
     by none e = absurd (no-move s t q e mv)
     by (some w) e = (w, e)
+
 pub move-of : (s t : System) (q : ℕ) (w : Process) → find-process (s .processes) q ≡ some w → move s q ≡ some t → (a : StepResult) × (step s w ≡ some a) × (settle w a ≡ t)
 move-of s t q w e mv = by (step s w) refl (ap (λ z. on-some z (λ w. on-some (step s w) (λ o. some (settle w o)))) (sym e) ∙ mv)
   where
     by : (o : Option StepResult) → step s w ≡ o → on-some o (λ a. some (settle w a)) ≡ some t → (a : StepResult) × (step s w ≡ some a) × (settle w a ≡ t)
     by none f g = absurd (no-some g)
     by (some a) f g = (a, f, inside g)
+
 pub empty : (ws : List Process) → ((q : ℕ) → find-process ws q ≡ none) → ws ≡ []
 empty [] h = refl
 empty (w ∷ ws) h = absurd (no-some (sym (h (w .pid)) ∙ ap (λ z. pick z (some w) (find-process ws (w .pid))) (eqb-self (w .pid))))
@@ -114,8 +123,10 @@ grown-apart s t table table′ kp gr (v ∷ vs) r k st aa = (by gr, grown-apart 
   where
     rg : (b i : ℕ) → nth (v .table) b ≡ some i → i < length (s .handles)
     rg b i y = st .4 .link .agrees .within b i y
+
     old : (a b i : ℕ) → nth table a ≡ some i → nth (v .table) b ≡ some i → Fixed (nth (t .handles) i)
     old a b i x y = kp i (rg b i y) (aa .0 a b i x y)
+
     by : Grown table s table′ t → (a b i : ℕ) → nth table′ a ≡ some i → nth (v .table) b ≡ some i → Fixed (nth (t .handles) i)
     by (inl e) a b i x y = old a b i (ap (λ z. nth z a) (sym e) ∙ x) y
     by (inr e) a b i x y = new (nth-snoc table (length (s .handles)) a i (ap (λ z. nth z a) (sym e) ∙ x))
@@ -127,8 +138,10 @@ grown-apart s t table table′ kp gr (v ∷ vs) r k st aa = (by gr, grown-apart 
 -- what a step of the root leaves to those below it
 out-stack : (r : ℕ) (k : Sink) (table : List ℕ) (s t : System) (vs : List Lv) → Out1 r k table s t → All-apart table s vs → Stack s r k vs → Stack t r k vs
 out-stack r k table s t vs o1 aa st = stack-keep s t table vs r k (o1 .longer) (o1 .others) (λ q l. o1 .finds q (λ e. absurd (omega (arith, e, l)))) (λ q l. o1 .gones q (λ e. absurd (omega (arith, e, l)))) (λ q u. o1 .pipes q (under-not k q u)) (o1 .paper) aa st
+
 out-known : (r : ℕ) (k : Sink) (table : List ℕ) (s t : System) (vs : List Lv) → Out1 r k table s t → Known s r vs → Known t r vs
 out-known r k table s t vs o1 kn q w e l = kn q w (sym (o1 .finds q (λ z. absurd (omega (arith, z, l)))) ∙ e) l
+
 -- what a read by one of those below leaves to the others
 read-known : (s t : System) (r : ℕ) (k : Sink) (vs : List Lv) → Read s t r k vs → Known s r vs → Known t r vs
 read-known s t r k vs rr kn q w e l = by (equal-or-not q (rr .a))
@@ -136,13 +149,17 @@ read-known s t r k vs rr kn q w e l = by (equal-or-not q (rr .a))
     by : (q ≡ rr .a) ⊎ (q ≡ rr .a → ⊥) → Mem q vs
     by (inl z) = subst (λ i. Mem i vs) (sym z) (rr .mem)
     by (inr n) = kn q w (sym (rr .fo .finds q n) ∙ e) l
+
 fo-fixed : (a p : ℕ) (s t : System) → Fo a p s t → (i : ℕ) → i < length (s .handles) → Fixed (nth (s .handles) i) → Fixed (nth (t .handles) i)
 fo-fixed a p s t fo i l h = subst (λ os. Fixed (nth os i)) (sym (fo .handles)) h
+
 or-left : (a b : Bool) → a ≡ true → (a || b) ≡ true
 or-left a b e = rw e
+
 or-right : (a b : Bool) → b ≡ true → (a || b) ≡ true
 or-right true b e = refl
 or-right false b e = e
+
 -- the root holds the end of the pipe that it writes to
 alone-holds : (r : ℕ) (k : Sink) (b1 : ℕ) (s : System) (y : Local) → Alone r k b1 s y → Into-held k s
 alone-holds r k b1 s y al = by k (al .out0)
@@ -157,13 +174,17 @@ running-read s t vs y base q st l mv = record { r = st .r; k = st .k; b1 = st .b
   where
     fd : (w : Process) × (find-process (s .processes) q ≡ some w)
     fd = mover s t q mv
+
     rr : Read s t (st .r) (st .k) vs
     rr = stack-read s t q vs (st .r) (st .k) (st .stack) (st .alone .sinks) (alone-holds (st .r) (st .k) (st .b1) s y (st .alone)) (st .known q (fd .0) (fd .1) l) mv
+
     af : (a2 : Alone (st .r) (st .k) (st .b1) t y) × (a2 .table ≡ st .alone .table)
     af = alone-fo (st .r) (st .k) (st .b1) s t y (rr .a) (rr .p) (rr .lt) (rr .fo) (rr .sinks) (st .alone)
+
 -- a step of its own
 pub running-after : (s t : System) (vs : List Lv) (y : Local) (base : List ℕ) (st : Running s vs y base) (af : After (st .r) (st .k) (st .b1) (st .alone .table) s y t) → Out1 (st .r) (st .k) (st .alone .table) s t → Running t vs (af .0) (base ++ af .3 .0)
 running-after s t vs y base st af o1 = record { r = st .r; k = st .k; b1 = st .b1; alone = af .1; stack = out-stack (st .r) (st .k) (st .alone .table) s t vs o1 (st .apart) (st .stack); apart = grown-apart s t (st .alone .table) (af .1 .table) (fixed-kept s t (st .alone .table) (o1 .others)) (af .2) vs (st .r) (st .k) (st .stack) (st .apart); known = out-known (st .r) (st .k) (st .alone .table) s t vs o1 (st .known); sum = af .3 .1 ∙ ap (λ z. z ++ af .3 .0) (st .sum) }
+
 -- it exits, and a process below has still to read
 pub running-over : (s t : System) (v : Lv) (vs : List Lv) (y : Local) (base : List ℕ) (st : Running s (v ∷ vs) y base) → Over (st .r) (st .k) s y t → Out1 (st .r) (st .k) (st .alone .table) s t → Draining t vs (printed (v .lev .y) (t .files) (v .lev .q) (v .lev .x) (v .lev .z) (sunk (st .k) s)) (v .lev .base)
 running-over s t v vs y base st ov o1 = record { v = v; total = sunk (st .k) s; drain = over-drain (st .r) (st .k) (st .b1) s t y (st .alone) v vs (st .stack) (st .apart) (st .known) ov o1; lowp = st .stack .2; known = kn; resumes = refl; before = refl }
@@ -174,67 +195,94 @@ running-over s t v vs y base st ov o1 = record { v = v; total = sunk (st .k) s; 
         by : Mem q (v ∷ vs) → Mem q vs
         by (inl z) = absurd (omega (arith, z, l))
         by (inr z) = z
+
 -- it begins a pipeline
 not-frames : (b1 : ℕ) (m : Bool) (k : List Frame) → Ok-frames 0 b1 false k → Ok-frames 0 b1 false (with-not m k)
 not-frames b1 true k h = h
 not-frames b1 false k h = h
+
 pub running-pipeline : (s : System) (vs : List Lv) (y : Local) (base : List ℕ) (st : Running s vs y base) (m : Bool) (c : Command) (p : Pipeline) → st .alone .w .control ≡ at-pipeline m (piped c p) → Busy (settle (st .alone .w) (step-pipeline s (st .alone .w) m (piped c p))) vs y (sunk (st .k) s)
 running-pipeline s vs y base st m c p ce = record { r = r; k = k; b1 = st .b1; w = w; m = m; c = c; p = p; n = s .next-pid; q = length (s .pipes); l = length (s .handles); table = al .table; h = al .next0; b = low-up k r (s .next-pid) (al .next0) (al .low); aw = λ j. sink-away k s j (al .sinks); D = members-at-start y w c p (length (s .handles)); phase = ph; waits = record { at-pipe = like-pipe (Table (al .table)) (w .control) (y .process .control) m c p ce (al .simulates .like .control); calm = not-frames (st .b1) m (w .frames) (pl .1 .0); ins0 = pl .1 .1; outs1 = pl .1 .2; functions = al .fit .functions; jobs = al .fit .jobs }; stack = stack-keep s t [] vs r k (omega (arith, ap length to, length-app (s .handles) (new-handles (piped c p) (length (s .pipes))))) (λ i h f. old i h) (λ i h. fl i (omega (arith, h, al .next0)) (λ e. absurd (omega (arith, e, h)))) (λ i h. ap (λ z. exit-status z i) (rs .exited)) (λ i u. oldp i (under-pipe k s i (al .sinks) u)) (λ i e. rs .paper) (no-mine s vs) (st .stack); rootapart = old-apart (al .table) s t old (al .simulates .agrees .within) vs (st .apart); memapart = λ j h. all-fixed (members-at-start y w c p (length (s .handles)) j .table) t (λ a i z. fixed-mine (g .in0 j) (g .out0 j) (g .b0 j) (g .b1 j) t (input-handle g j h) (output-handle g j h) (ph .base j h .0) (ph .base j h .1) a i z) vs; gap = λ z h l. fl z l (λ e. absurd (omega (arith, e, h))) ∙ al .above z h; lowp = low-pipe k s (al .sinks); low = al .low; known = λ q u e l. st .known q u (sym (fl q (omega (arith, l, al .next0)) (λ z. absurd (omega (arith, z, l)))) ∙ e) l }
   where
     r : ℕ
     r = st .r
+
     k : Sink
     k = st .k
+
     al : Alone (st .r) (st .k) (st .b1) s y
     al = st .alone
+
     w : Process
     w = al .w
+
     pl : (Ok-command true c × Ok-members p) × Between 0 (st .b1) false (w .frames) (w .stdin) (w .stdout)
     pl = subst (λ d. At 0 (st .b1) false d (w .frames) (w .stdin) (w .stdout)) ce (al .fit .place)
+
     t : System
     t = settle w (step-pipeline s w m (piped c p))
+
     T : System
     T = spawn-pipeline s w (piped c p) (w .stdin)
+
     ms : List Process
     ms = members w (piped c p) (s .next-pid) (length (s .handles)) (w .stdin)
+
     wp : w .pid ≡ r
     wp = found-pid (s .processes) r w (al .found)
+
     rs : Rest s T (pipeline-length (piped c p))
     rs = spawned-rest s w (piped c p) (w .stdin)
+
     g : Setup
     g = setup y w m c p (s .next-pid) (length (s .pipes)) (length (s .handles)) (al .table) (sunk k s) r k (al .next0) (low-up k r (s .next-pid) (al .next0) (al .low)) (λ j. sink-away k s j (al .sinks))
+
     ph : Phase g t (members-at-start y w c p (length (s .handles)))
     ph = spawned r k (st .b1) s y al m c p (pl .0) (pl .1 .1) (pl .1 .2)
+
     fl : (q : ℕ) → q < s .next-pid → (q ≡ r → ⊥) → find-process (t .processes) q ≡ find-process (s .processes) q
     fl q h n = other-there (T .processes) (w .pid) q (with-control w _ _) (λ z. n (z ∙ wp)) refl ∙ ap (λ z. find-process z q) (spawned-processes s w (piped c p) (w .stdin)) ∙ find-low (s .processes) ms q (none-members w (piped c p) (s .next-pid) (length (s .handles)) (w .stdin) q h)
+
     to : t .handles ≡ s .handles ++ new-handles (piped c p) (length (s .pipes))
     to = spawned-handles s w (piped c p) (w .stdin)
+
     old : (i : ℕ) → i < length (s .handles) → nth (t .handles) i ≡ nth (s .handles) i
     old i h = ap (λ os. nth os i) to ∙ nth-old (s .handles) (new-handles (piped c p) (length (s .pipes))) i h
+
     oldp : (i : ℕ) → i < length (s .pipes) → nth (t .pipes) i ≡ nth (s .pipes) i
     oldp i h = ap (λ ps. nth ps i) (spawned-pipes s w (piped c p) (w .stdin)) ∙ nth-old (s .pipes) (new-pipes (piped c p)) i h
+
 -- it begins a $( )
 words-like : (ρ : Bool → ℕ → ℕ → Type 0) (x : Expansion) (z : Purpose) (d : Control) → Like-control ρ false (at-words x z) d → d ≡ at-words x z
 words-like ρ x z d l-words = refl
+
 pub running-substitution : (s : System) (vs : List Lv) (y : Local) (base : List ℕ) (st : Running s vs y base) (x : Expansion) (z : Purpose) (q : Bool) (l : CommandList) (rest : Word) → st .alone .w .control ≡ at-words x z → x .parts ≡ and-part (substitution q l) rest → Running (run-sys s (st .alone .w) q l (with-parts x rest) z) (new-lv (st .r) (st .k) (st .b1) s y (st .alone .w) (st .alone .table) q (with-parts x rest) z ∷ vs) (child y l) []
 running-substitution s vs y base st x z q l rest ce pe = record { r = s .next-pid; k = on-pipe (length (s .pipes)) r; b1 = suc (length (s .handles)); alone = nb .0; stack = nb .1; apart = nb .2; known = kn; sum = nb .3 }
   where
     r : ℕ
     r = st .r
+
     al : Alone (st .r) (st .k) (st .b1) s y
     al = st .alone
+
     w : Process
     w = al .w
+
     t : System
     t = run-sys s w q l (with-parts x rest) z
+
     sp : (false ≡ false) × (w .stdin ≡ 0) × Ok-list false l × Word-at 0 (st .b1) false (with-parts x rest) z (w .frames) (w .stdin) (w .stdout)
     sp = substitution-parts 0 (st .b1) false x z q l rest (w .frames) (w .stdin) (w .stdout) pe (subst (λ d. At 0 (st .b1) false d (w .frames) (w .stdin) (w .stdout)) ce (al .fit .place))
+
     nb : (a2 : Alone (s .next-pid) (on-pipe (length (s .pipes)) r) (suc (length (s .handles))) t (child y l)) × Stack t (s .next-pid) (on-pipe (length (s .pipes)) r) (new-lv r (st .k) (st .b1) s y w (al .table) q (with-parts x rest) z ∷ vs) × All-apart (a2 .table) t (new-lv r (st .k) (st .b1) s y w (al .table) q (with-parts x rest) z ∷ vs) × (sunk (on-pipe (length (s .pipes)) r) t ≡ [])
     nb = run-birth r (st .k) (st .b1) s y al vs (st .stack) (st .apart) q l (with-parts x rest) z (sp .1) (sp .2) (sp .3)
+
     wp : w .pid ≡ r
     wp = found-pid (s .processes) r w (al .found)
+
     fl : (i : ℕ) → i < s .next-pid → (i ≡ r → ⊥) → find-process (t .processes) i ≡ find-process (s .processes) i
     fl i h n = other-there (s .processes ++ (kid s w l ∷ [])) (w .pid) i (with-control w _ _) (λ e. n (e ∙ wp)) refl ∙ find-low (s .processes) (kid s w l ∷ []) i (ap (λ b. pick b (some (kid s w l)) none) (eqb-no (s .next-pid) i (λ e. absurd (omega (arith, e, h)))))
+
     kn : Known t (s .next-pid) (new-lv r (st .k) (st .b1) s y w (al .table) q (with-parts x rest) z ∷ vs)
     kn i u e h = by (order i r)
       where
@@ -242,6 +290,7 @@ running-substitution s vs y base st x z q l rest ce pe = record { r = s .next-pi
         by (inl f) = inr (st .known i u (sym (fl i h (λ g. absurd (omega (arith, f, g)))) ∙ e) f)
         by (inr (inl f)) = inl f
         by (inr (inr f)) = absurd (no-some (sym (al .above i f) ∙ sym (fl i h (λ g. absurd (omega (arith, f, g)))) ∙ e))
+
 pub substitution-kind : (s : System) (vs : List Lv) (y : Local) (base : List ℕ) (st : Running s vs y base) (x : Expansion) (z : Purpose) (q : Bool) (l : CommandList) (rest : Word) → st .alone .w .control ≡ at-words x z → x .parts ≡ and-part (substitution q l) rest → kind-of y (y .process .control) ≡ one-substitution q l (with-parts x rest) z
 substitution-kind s vs y base st x z q l rest ce pe = ap (kind-of y) (words-like (Table (st .alone .table)) x z (y .process .control) (subst (λ d. Like-control (Table (st .alone .table)) false d (y .process .control)) ce (st .alone .simulates .like .control))) ∙ ap (λ v. Rattle.confluence.proofs.Path.kind-of-word y x z v) pe
 
@@ -252,35 +301,45 @@ busy-holds s vs y base bz = by (bz .k) (ap (λ z. nth (s .handles) z) (sym (b1-l
     by : (z : Sink) → nth (s .handles) (bz .w .stdout) ≡ some (sk-open z) → Into-held z s
     by on-paper e = tt
     by (on-pipe p g) e = held-by (s .processes) (bz .r) (setup y (bz .w) (bz .m) (bz .c) (bz .p) (bz .n) (bz .q) (bz .l) (bz .table) base (bz .r) (bz .k) (bz .h) (bz .b) (bz .aw) .root) (s .handles) (writes-pipe p) (bz .phase .rooted) (or-left (handle-is (s .handles) (writes-pipe p) (bz .w .stdin) || handle-is (s .handles) (writes-pipe p) (bz .w .stdout)) _ (or-right (handle-is (s .handles) (writes-pipe p) (bz .w .stdin)) (handle-is (s .handles) (writes-pipe p) (bz .w .stdout)) (ap (λ o. opt o false (writes-pipe p)) e ∙ eqb-self p)))
+
 -- one of those below reads a byte
 below-pipes : (k : Sink) (p q : ℕ) → Low-p k q → Upto k p → p < q
 below-pipes on-paper p q a u = absurd u
 below-pipes (on-pipe x g) p q a u = omega (arith, a, u)
+
 under-pipes : (k : Sink) (p q : ℕ) → Low-p k q → Under k p → p < q
 under-pipes on-paper p q a u = absurd u
 under-pipes (on-pipe x g) p q a u = omega (arith, a, u)
+
 pub busy-read : (s t : System) (vs : List Lv) (y : Local) (base : List ℕ) (q : ℕ) (bz : Busy s vs y base) → q < bz .r → move s q ≡ some t → Busy t vs y base
 busy-read s t vs y base q bz l mv = record { r = bz .r; k = bz .k; b1 = bz .b1; w = bz .w; m = bz .m; c = bz .c; p = bz .p; n = bz .n; q = bz .q; l = bz .l; table = bz .table; h = bz .h; b = bz .b; aw = bz .aw; D = bz .D; phase = phase-fo _ s t (bz .D) (rr .a) (rr .p) (rr .lt) (λ j e. absurd (omega (arith, e, below-pipes (bz .k) (rr .p) (bz .q) (bz .lowp) (rr .upto)))) (rr .fo) (rr .sunk1) (rr .sinks) (bz .phase); waits = bz .waits; stack = rr .stack; rootapart = ga (bz .table) (bz .rootapart); memapart = λ j h. ga (bz .D j .table) (bz .memapart j h); gap = λ z h i. rr .fo .finds z (λ e. absurd (omega (arith, e, h, rr .lt))) ∙ bz .gap z h i; lowp = bz .lowp; low = bz .low; known = read-known s t (bz .r) (bz .k) vs rr (bz .known) }
   where
     fd : (w : Process) × (find-process (s .processes) q ≡ some w)
     fd = mover s t q mv
+
     rr : Read s t (bz .r) (bz .k) vs
     rr = stack-read s t q vs (bz .r) (bz .k) (bz .stack) (bz .phase .sinks) (busy-holds s vs y base bz) (bz .known q (fd .0) (fd .1) l) mv
+
     ga : (table : List ℕ) → All-apart table s vs → All-apart table t vs
     ga table h = grown-apart s t table table (fo-fixed (rr .a) (rr .p) s t (rr .fo)) (inl refl) vs (bz .r) (bz .k) (bz .stack) h
+
 -- a member of the pipeline takes a step
 pub busy-member : (s t : System) (vs : List Lv) (y : Local) (base : List ℕ) (q : ℕ) (bz : Busy s vs y base) → bz .n ≤ q → move s q ≡ some t → Busy t vs y base
 busy-member s t vs y base q bz l mv = record { r = bz .r; k = bz .k; b1 = bz .b1; w = bz .w; m = bz .m; c = bz .c; p = bz .p; n = bz .n; q = bz .q; l = bz .l; table = bz .table; h = bz .h; b = bz .b; aw = bz .aw; D = nx .0 .0; phase = nx .0 .1; waits = bz .waits; stack = side-stack g s t (bz .D) (nx .0 .0) vs (nx .1) (bz .stack) (bz .memapart (nx .1 .j) (nx .1 .lt)) (λ i u j e. absurd (omega (arith, e, under-pipes (bz .k) i (bz .q) (bz .lowp) u))); rootapart = grown-apart s t (bz .table) (bz .table) kp (inl refl) vs (bz .r) (bz .k) (bz .stack) (bz .rootapart); memapart = λ j h. grown-apart s t (bz .D j .table) (nx .0 .0 j .table) kp (nx .1 .grown j h) vs (bz .r) (bz .k) (bz .stack) (bz .memapart j h); gap = λ z h i. nx .1 .trans .finds z (λ e. absurd (omega (arith, e, i))) ∙ bz .gap z h i; lowp = bz .lowp; low = bz .low; known = λ i u e h. bz .known i u (sym (nx .1 .trans .finds i (λ z. absurd (omega (arith, z, h, bz .h)))) ∙ e) h }
   where
     g : Setup
     g = setup y (bz .w) (bz .m) (bz .c) (bz .p) (bz .n) (bz .q) (bz .l) (bz .table) base (bz .r) (bz .k) (bz .h) (bz .b) (bz .aw)
+
     nx : Next g s (bz .D) t
     nx = phase-move g s t (bz .D) q (bz .phase) l mv
+
     kp : (i : ℕ) → i < length (s .handles) → Fixed (nth (s .handles) i) → Fixed (nth (t .handles) i)
     kp = fixed-kept s t (bz .D (nx .1 .j) .table) (nx .1 .trans .others)
+
 -- all members have exited, and the root goes on
 abbrev pub Resumed : System → List Lv → (y : Local) → List ℕ → Bool → Command → Pipeline → Type 0
 Resumed t vs y base m c p = (i : ℕ) × (o : List ℕ) × Running t vs (resume y m i) (base ++ o) × Row Local local-step (Rattle.confluence.proofs.Path.member-starts y c p 0) (Rattle.confluence.proofs.Path.list-from (Rattle.confluence.proofs.Path.member-starts y c p) 1 (pipeline-length p)) [] true o i
+
 pub busy-end : (s t : System) (vs : List Lv) (y : Local) (base : List ℕ) (bz : Busy s vs y base) → move s (bz .r) ≡ some t → Resumed t vs y base (bz .m) (bz .c) (bz .p)
 busy-end s t vs y base bz mv =
     let pe = phase-end (bz .b1) s t y (bz .w) (bz .m) (bz .c) (bz .p) (bz .n) (bz .q) (bz .l) (bz .table) base (bz .r) (bz .k) (bz .h) (bz .b) (bz .aw) (bz .D) (bz .phase) (bz .waits) (bz .low) (bz .gap) mv in
@@ -293,20 +352,26 @@ drain-below s t vs y base q dn l mv = record { v = dn .v; total = dn .total; dra
   where
     fd : (w : Process) × (find-process (s .processes) q ≡ some w)
     fd = mover s t q mv
+
     rr : Read s t (dn .v .pid) (dn .v .sink) vs
     rr = stack-read s t q vs (dn .v .pid) (dn .v .sink) (dn .drain .stack) (dn .drain .lvl .sinks) (lvl-holds s (dn .v) (dn .drain .lvl)) (dn .known q (fd .0) (fd .1) l) mv
+
 -- the reader reads a byte, or all is read and it goes on
 drain-known : (s : System) (vs : List Lv) (y : Local) (base : List ℕ) (dn : Draining s vs y base) (u : Process) → u .pid ≡ dn .v .pid → (t : System) → t .processes ≡ replace (s .processes) (dn .v .pid) u → Known t (dn .v .pid) vs
 drain-known s vs y base dn u up t e q w f l = dn .known q w (sym (ap (λ ws. find-process ws q) e ∙ other-there (s .processes) (dn .v .pid) q u (λ z. absurd (omega (arith, z, l))) up) ∙ f) l
+
 pub drain-step : (s t : System) (vs : List Lv) (y : Local) (base : List ℕ) (dn : Draining s vs y base) → move s (dn .v .pid) ≡ some t → Draining t vs y base ⊎ Running t vs (printed (dn .v .lev .y) (s .files) (dn .v .lev .q) (dn .v .lev .x) (dn .v .lev .z) (dn .total)) (dn .v .lev .base)
 drain-step s t vs y base dn mv = by (gath-step s t v (dr .lvl) (dr .sk .3 .0) (dr .sk .3 .1) mv)
   where
     v : Lv
     v = dn .v
+
     dr : Drain s (dn .v) vs (dn .total)
     dr = dn .drain
+
     wp : v .w .pid ≡ v .pid
     wp = found-pid (s .processes) (v .pid) (gat v (dr .lvl .bs)) (dr .lvl .found)
+
     by : Gathered s v (dr .lvl .bs) (dr .sk .3 .0) t → Draining t vs y base ⊎ Running t vs (printed (v .lev .y) (s .files) (v .lev .q) (v .lev .x) (v .lev .z) (dn .total)) (v .lev .base)
     by (inl z) = inl (subst (λ u. Draining u vs y base) (sym (z .3)) (record { v = v; total = dn .total; drain = drain-read s v vs (dn .total) dr (dn .lowp) (z .0) (z .1) (dr .sk .3 .1 ∙ ap some (z .2)); lowp = dn .lowp; known = drain-known s vs y base dn (gat v (dr .lvl .bs ++ (z .0 ∷ []))) wp (read-on s v (dr .lvl .bs) (z .0) (z .1)) refl; resumes = dn .resumes; before = dn .before }))
     by (inr z) =

@@ -202,7 +202,7 @@ sets-fits : {S : Deeper} {d : ℕ} → Sound S d → (n : ℕ) (ps : List Token)
 sets-fits H zero ps = misfit
 sets-fits {S} H (suc n) ps = or-set _ (set-fits ps) (fit [] (no-assignments-x, omega arith) refl) λ b c e q t. then-fits _ (more-fits H (suc (length (after-first ps))) (after-first ps)) λ w r s m e1. then-fits _ (sets-fits H n r) λ ss r1 u h e2. fit (token false 0 b ∷ (s ++ u)) (assign-x c q t (m .0) (h .0), omega (arith, deep-only1 (c .behind) w)) (e ∙ simp (e1, e2, app-assoc))
 
--- turns
+-- steps
 abbrev IsArrow : List Token → RedirectKind → Type 0
 IsArrow s k = (p : Token) × (s ≡ p ∷ []) × RedirectSign p k
 

@@ -180,7 +180,7 @@ print-keeps s w (b ∷ bs) u = by (write-byte s (w .stdout) b) (write-as-is s (w
     by pipe-full a e = rw e tt
     by no-reader a e = rw e (search walk)
 
--- every kind of turn
+-- every kind of step
 cat-next-keeps : (s : System) (w : Process) (xs : List Name) → Keeps? s w (cat-next s w xs)
 cat-next-keeps s w [] = search walk
 cat-next-keeps s w (x ∷ xs) = search walk

@@ -16,7 +16,7 @@ use Rattle.meaning.specs.Queue.{place, Once, Ready, No-later, Queued, rests, s
 use Rattle.meaning.proofs.Own.{inside}
 use Rattle.meaning.proofs.Core.{no-some}
 
--- how many moves of others there may be before it is a process's turn: few at first, and fewer after each
+-- how many moves of others there may be before it is a process's step: few at first, and fewer after each
 abbrev pub Small : System → (ℕ → ℕ) → Type 0
 Small s c = (q : ℕ) → Able s q → c q ≤ 4096 * (1 + enabled-count s (s .processes))
 
@@ -72,7 +72,7 @@ fair-by-cost ms s u c e h = record { served = λ a b z t q p m k n. by a b z t q
             at (inl i) = i
             at (inr i) = let j = small-of t u (d .0) e (b ++ z) (d .1) q (k [] b t refl refl) in absurd (omega arith)
 
--- a queue whose first has k moves left: the moves of others before it is q's turn
+-- a queue whose first has k moves left: the moves of others before it is q's step
 abbrev pub cost : List ℕ → ℕ → ℕ → ℕ
 cost [] k q = 0
 cost (r ∷ rs) k q = pick (eqb r q) 0 (k + 4096 * place rs q)

@@ -35,10 +35,12 @@ abbrev pub without-redirects : Redirects → Bool
 without-redirects no-redirects = true
 without-redirects (redirect k w ts) = false
 
--- the first word is written out, and isn't rm or read
+-- the first word is written out, and isn't rm or read. A word of no parts at all, which no text has, would leave the
+-- command to be named by the next one
 abbrev pub harmless : Words → Bool
 harmless no-words = true
-harmless (and-word w ws) = opt (literal-word w) false (λ x. not (same x name-rm || same x name-read))
+harmless (and-word no-parts ws) = false
+harmless (and-word (and-part p w) ws) = opt (literal-word (and-part p w)) false (λ x. not (same x name-rm || same x name-read))
 
 -- strict is the rule about redirections that read: without it orders differ, as `Without-the-rule` shows
 module _ (strict : Bool) where

@@ -1,5 +1,5 @@
-use Rattle.confluence.proofs.Confluence.{confluent-named}
+use Rattle.confluence.proofs.Confluence.{confluent}
 use Rattle.confluence.proofs.confluent.Needs as need
 
 pub returns : need.returns
-returns c = confluent-named
+returns c = confluent

@@ -1,2 +1,0 @@
--- What is proved of the orders of calm texts.
-pub mod Statements
