@@ -1,13 +1,14 @@
--- Workers in a row, each with an order of its own, put out the same: whoever goes when.
-use mathlib.Core.Path.{_≡_, refl, sym, _∙_, ap, subst}
+-- Deterministic processes in a row, each reading what the one before it writes: whatever the order of their steps, a row
+-- that is finished has one output and one status. Processes are abstract here: states with an action each.
+use mathlib.Core.Path.{_∙_, _≡_, ap, refl, subst, sym}
 use mathlib.Core.Logic.{_⊎_, inl, inr}
-use mathlib.Core.Bool.{Bool, true, false}
-use mathlib.Core.List.{List, [], _∷_, _++_}
-use mathlib.Core.Option.{Option, some, none}
-use Prim.Native.Nat.{ℕ, zero, suc}
+use mathlib.Core.Bool.{Bool, true}
+use mathlib.Core.List.{[], _∷_, List}
+use mathlib.Core.Option.{none, Option, some}
+use Prim.Native.Nat.{ℕ}
 use native.Mathlib.Omega.{arith}
 
--- what a process in a row does next: something of its own; read (a byte, or that there's no more); write; be gone
+-- what a process does next: a step of its own; read (a byte, or the end); write; exit
 pub data Action (X : Type 0) : Type 0 where
   silent : X → Action X
   reading : (Option ℕ → X) → Action X
@@ -55,7 +56,7 @@ module _ (X : Type 0) (step : X → Action X) where
   tag (writing b u) = 2
   tag (finished n) = 3
 
-  -- one kind of step at a time
+  -- a state has one action
   one-action : {A : Type 0} (x : X) (p q : Action X) → step x ≡ p → step x ≡ q → (tag p ≡ tag q → ⊥) → A
   one-action x p q e f d = absurd (d (ap tag (sym e ∙ f)))
 
@@ -67,7 +68,7 @@ module _ (X : Type 0) (step : X → Action X) where
   comparable-tail a b xs ys (inl h) = (h .0, inl (h .1))
   comparable-tail a b xs ys (inr h) = (sym (h .0), inr (h .1))
 
-  -- the same taken, the same done, ts far ts both go; one that is gone has gone farthest
+  -- two runs from one state that read the same: one is a prefix of the other, and one that has exited is not shorter
   abbrev pub Together : List Event → List Event → X → X → Type 0
   Together es fs y z = Comparable es fs × ((n : ℕ) → step y ≡ finished n → Prefix fs es) × ((n m : ℕ) → step y ≡ finished n → step z ≡ finished m → n ≡ m)
 
@@ -98,7 +99,7 @@ module _ (X : Type 0) (step : X → Action X) where
       let f : a ≡ b = cc (r .1, q .1) in
       together-cons (e-write a) (e-write b) es fs y z (ap e-write f) (deterministic es fs (r .0) y z (r .2) (subst (λ u. Trace u fs z) e (q .2)) c)
 
-  -- what was taken stands on the tape, of which it is known whether it is whole
+  -- what was read stands in ts; the end is read only if ts is complete
   abbrev pub Read-from : List (Option ℕ) → List ℕ → Bool → Type 0
   Read-from [] ts c = Unit {0}
   Read-from (some b ∷ is) [] c = ⊥
@@ -151,7 +152,8 @@ module _ (X : Type 0) (step : X → Action X) where
   outputs-comparable es fs (inl h) = inl (outputs-prefix es fs h)
   outputs-comparable es fs (inr h) = inr (outputs-prefix fs es h)
 
-  -- a row: each one's order, from what the one before has put out (whole, if that one is gone by itself); the last is gone
+  -- a row: the run of each, reading what the one before has written (complete, if that one has exited by itself); the last
+  -- has exited
   abbrev pub Row : X → List X → List ℕ → Bool → List ℕ → ℕ → Type 0
   Row x [] ts c o n = (es : List Event) × (y : X) × Trace x es y × Read-from (inputs es) ts c × (step y ≡ finished n) × (outputs es ≡ o)
   Row x (x′ ∷ xs) ts c o n = (es : List Event) × (y : X) × (d : Bool) × Trace x es y × Read-from (inputs es) ts c × (d ≡ true → (m : ℕ) × (step y ≡ finished m)) × Row x′ xs (outputs es) d o n

@@ -1,27 +1,28 @@
--- Every step of a process of a calm text keeps to the restrictions.
-use mathlib.Core.Path.{_≡_, refl, sym, _∙_, ap, subst}
+-- A process of a calm text keeps to the restrictions with every step: no step spawns a process except at a pipeline or a
+-- $( ), its own handles come back after each simple command, and inside a pipeline no file changes.
+use mathlib.Core.Path.{_∙_, _≡_, ap, refl, subst, sym}
 use mathlib.Core.Logic.{_⊎_, inl, inr}
-use mathlib.Core.Bool.{Bool, true, false, _&&_, _||_, not}
-use mathlib.Core.List.{List, [], _∷_, _++_}
-use mathlib.Core.Option.{Option, some, none}
-use Prim.Native.Nat.{ℕ, zero, suc, _+_, _*_, max, _≤_, _<_}
-use native.Mathlib.Omega.{arith}
+use mathlib.Core.Bool.{_&&_, _||_, Bool, false, not, true}
+use mathlib.Core.List.{[], _++_, _∷_, List}
+use mathlib.Core.Option.{none, Option, some}
+use Prim.Native.Nat.{suc, zero, ℕ}
 use lib.ListN.{length}
-use lib.Dec.{eqb, ltb, T, eqb→eq, eqb-refl}
-use Rattle.syntax.specs.Base.{pick, opt, on-some, nth, put, Name, same}
-use Rattle.syntax.specs.Tree.{WordPart, literal, parameter, substitution, Word, no-parts, and-part, Words, no-words, and-word, Assignments, no-assignments, assign, RedirectKind, input, output, append, here, Redirects, no-redirects, redirect, Command, simple, group, subshell, if, while, for, case, function, ElsePart, no-else, else, Arms, no-arms, arm, Pipeline, single, piped, AndOr, first, joined, CommandList, end, next}
-use Rattle.syntax.specs.Stage.{has-wildcard, part-stage, word-stage, words-stage, assignments-stage, redirects-stage, command-stage, arms-stage, else-stage, pipeline-stage, and-or-stage, list-stage}
-use Rattle.meaning.specs.System.{QuotedByte, Function, function-body, Handle, file-read, file-append, pipe-read, pipe-write, host-input, host-paper, here-text, Builtin, b-done, b-print, b-cat, b-head, b-wc, b-grep, b-seq, b-yes, b-read, Expansion, AfterRedirects, then-invoke, then-command, Purpose, to-assign, to-invoke, to-redirect, to-loop, to-select, to-match, Unwind, break, continue, return, exit, Control, at-list, at-and-or, at-pipeline, at-command, at-words, at-redirects, at-builtin, at-status, at-unwind, at-wait, at-capture, Frame, f-list, f-and-or, f-not, f-if, f-condition, f-body, f-for, f-handles, f-arguments, Process, System, with-files, remove-file, ReadByte, got, at-end, must-wait, read-byte, read-input, read-text, read-handle, read-pipe, WriteByte, wrote, pipe-full, no-reader, write-byte, write-handle, write-pipe, held, writes-pipe, reads-pipe, find-file, with-handles, find-process, replace, without, exit-status, with-pipes, File}
-use Rattle.meaning.specs.Words.{split-blanks, SplitWord, so-far, quote-bytes, bytes-of, has-pattern, pathnames, all-pathnames, close-word, insert-value, with-parts, parameter-value, expand-word, expand-words, first-bytes, is-blank, or-literal, matching-names}
-use Rattle.meaning.specs.Step.{name-rm, name-read, with-status, with-variables, with-arguments, StepResult, continues, exits, goes-to, spawn, new-pipe, spawn-pipeline, start-cat, start-seq, remove-files, run-builtin, invoke, print-byte, read-or, cat-next, grep-line, grep-last, step-builtin, step-assignments, step-arms, step-for, expanded, next-word, step-expansion, step-redirects, redirected, step-command, step-pipeline, step-and-or, step-list, step-else, step-status, step-unwind, step-wait, step-capture, step-control, step, settle, move, moves, initial, enabled, apply-redirect}
-use Rattle.meaning.specs.Calm.{calm-part, calm-word, calm-words, calm-assignments, calm-redirects, calm-command, calm-else, calm-arms, calm-pipeline, calm-members, calm-and-or, calm-list, reads, reads-only, harmless, without-redirects, literal-word}
+use lib.Dec.{eqb, ltb}
+use Rattle.syntax.specs.Base.{Name, nth, on-some, opt, pick, put}
+use Rattle.syntax.specs.Tree.{and-part, and-word, AndOr, append, arm, Arms, assign, Assignments, case, Command, CommandList, else, ElsePart, end, first, for, function, group, here, if, input, joined, literal, next, no-arms, no-assignments, no-else, no-parts, no-redirects, no-words, output, parameter, piped, Pipeline, redirect, RedirectKind, Redirects, simple, single, subshell, substitution, while, Word, Words}
+use Rattle.syntax.specs.Stage.{has-wildcard}
+use Rattle.meaning.specs.System.{AfterRedirects, at-and-or, at-builtin, at-capture, at-command, at-end, at-list, at-pipeline, at-redirects, at-status, at-unwind, at-wait, at-words, b-cat, b-done, b-grep, b-head, b-print, b-read, b-seq, b-wc, b-yes, break, Builtin, continue, Control, exit, exit-status, Expansion, f-and-or, f-arguments, f-body, f-condition, f-for, f-handles, f-if, f-list, f-not, File, file-append, file-read, find-file, Frame, function-body, got, Handle, held, here-text, host-input, host-paper, must-wait, no-reader, pipe-full, pipe-read, pipe-write, Process, Purpose, QuotedByte, read-byte, read-handle, read-input, read-pipe, read-text, ReadByte, reads-pipe, return, System, then-command, then-invoke, to-assign, to-invoke, to-loop, to-match, to-redirect, to-select, Unwind, with-handles, with-pipes, write-byte, write-handle, write-pipe, WriteByte, writes-pipe, wrote}
+use Rattle.meaning.specs.Words.{all-pathnames, bytes-of, close-word, has-pattern, insert-value, is-blank, matching-names, or-literal, parameter-value, quote-bytes, so-far, split-blanks, SplitWord, with-parts}
+use Rattle.meaning.specs.Step.{apply-redirect, cat-next, continues, exits, expanded, goes-to, grep-last, invoke, next-word, print-byte, read-or, run-builtin, start-cat, start-seq, step, step-and-or, step-arms, step-assignments, step-builtin, step-command, step-control, step-else, step-expansion, step-for, step-list, step-pipeline, step-redirects, step-status, step-unwind, step-wait, StepResult, with-arguments, with-status, with-variables}
+use Rattle.meaning.specs.Calm.{literal-word, reads}
 use Rattle.meaning.proofs.Own.{inside}
 use Rattle.meaning.proofs.Core.{no-some}
+use Rattle.confluence.proofs.Basics.{app-assoc, app-nil, false-true}
 use Rattle.confluence.proofs.Renaming.{No-substitution}
-use Rattle.confluence.proofs.Lists.{app-assoc, app-nil}
-use Rattle.confluence.proofs.Restrictions.{Ok-word, Ok-part, Ok-words, Ok-assignments, Ok-redirect, Ok-redirects, Ok-name, Track, First-word, Ok-first, No-redirects, May, Ok-command, Ok-else, Ok-arms, Ok-pipeline, Ok-members, Ok-and-or, Ok-list, both, false-true}
+use Rattle.confluence.proofs.Restrictions.{Allowed, First-word, Ok-and-or, Ok-arms, Ok-assignments, Ok-command, Ok-else, Ok-first, Ok-list, Ok-name, Ok-pipeline, Ok-redirect, Ok-redirects, Ok-word, Ok-words, Track}
 
--- frames: no number is saved in them, but by the one on top while a simple command is at work
+-- no frame saves handles, except the innermost while a simple command is at work
+-- b0 and b1 are the handles that the process began with; i: inside a pipeline
 module _ (b0 b1 : ℕ) where
   abbrev pub Ok-frames : Bool → List Frame → Type 0
   Ok-frames i [] = Unit {0}
@@ -63,7 +64,7 @@ module _ (b0 b1 : ℕ) where
   Ok-after i (then-invoke as₁) = Ok-arguments i as₁
   Ok-after i (then-command c) = ⊥
 
-  -- $( ) in words only where the numbers are the process's first ones
+  -- a $( ) only where the process reads from the handle that it began with
   abbrev pub Sees-start : Bool → Bool → ℕ → Type 0
   Sees-start true i a = Unit {0}
   Sees-start false true a = ⊥
@@ -220,7 +221,7 @@ module _ (b0 b1 : ℕ) where
   Stream (some host-paper) = Unit {0}
   Stream (some (here-text bs)) = ⊥
 
-  -- in a pipe, what is written to is a pipe or the paper
+  -- inside a pipeline the output is a pipe or the paper
   abbrev pub Stdout-stream : Bool → System → Type 0
   Stdout-stream true s = Stream (nth (s .handles) b1)
   Stdout-stream false s = Unit {0}
@@ -269,21 +270,21 @@ module _ (b0 b1 : ℕ) where
       by at-end a e = rw e h
       by must-wait a e = rw e tt
 
-  out-at : (i : Bool) (k : List Frame) (b : ℕ) → Within i k b → Stdout-at i b
-  out-at i [] b h = absurd h
-  out-at i (f-list l ∷ k) b h = absurd h
-  out-at i (f-and-or c n p ∷ k) b h = absurd h
-  out-at i (f-not ∷ k) b h = absurd h
-  out-at i (f-if a c ∷ k) b h = absurd h
-  out-at i (f-condition a c ∷ k) b h = absurd h
-  out-at i (f-body a c ∷ k) b h = absurd h
-  out-at i (f-for x as₁ l ∷ k) b h = absurd h
-  out-at i (f-handles x y ∷ k) b h = h .3
-  out-at i (f-arguments as₁ ∷ k) b h = absurd h
+  stdout-of : (i : Bool) (k : List Frame) (b : ℕ) → Within i k b → Stdout-at i b
+  stdout-of i [] b h = absurd h
+  stdout-of i (f-list l ∷ k) b h = absurd h
+  stdout-of i (f-and-or c n p ∷ k) b h = absurd h
+  stdout-of i (f-not ∷ k) b h = absurd h
+  stdout-of i (f-if a c ∷ k) b h = absurd h
+  stdout-of i (f-condition a c ∷ k) b h = absurd h
+  stdout-of i (f-body a c ∷ k) b h = absurd h
+  stdout-of i (f-for x as₁ l ∷ k) b h = absurd h
+  stdout-of i (f-handles x y ∷ k) b h = h .3
+  stdout-of i (f-arguments as₁ ∷ k) b h = absurd h
 
   print-stays : (i : Bool) (s : System) (w : Process) (bs : List ℕ) (u : Builtin) → Stdout-stream i s → Within i (w .frames) (w .stdout) → w .functions ≡ [] → w .jobs ≡ [] → Stays? i s (print-byte s w bs u)
   print-stays i s w [] u h k f e = search walk
-  print-stays i s w (b ∷ bs) u h k f e = by (write-byte s (w .stdout) b) (write-files i s (w .stdout) b (out-at i (w .frames) (w .stdout) k) h) refl
+  print-stays i s w (b ∷ bs) u h k f e = by (write-byte s (w .stdout) b) (write-files i s (w .stdout) b (stdout-of i (w .frames) (w .stdout) k) h) refl
     where
       by : (g : WriteByte) → Write-files i s g → write-byte s (w .stdout) b ≡ g → Stays? i s (print-byte s w (b ∷ bs) u)
       by (wrote t) a p = rw p (search walk)
@@ -311,7 +312,7 @@ module _ (b0 b1 : ℕ) where
   builtin-stays i s w (b-yes l) h k f e = search walk
   builtin-stays i s w (b-read x l) h k f e = read-stays i s _ _ _ (search walk) (search walk)
 
-  -- the first word on its way
+  -- the first word while it is expanded
   bytes-quote : (q : Bool) (bs : List ℕ) → bytes-of (quote-bytes q bs) ≡ bs
   bytes-quote q [] = refl
   bytes-quote q (b ∷ bs) = ap (λ z. b ∷ z) (bytes-quote q bs)
@@ -342,25 +343,21 @@ module _ (b0 b1 : ℕ) where
   picked true o x e = absurd (no-some e)
   picked false o x e = (refl, e)
 
-  behind : (o : Option Name) (bs x : Name) → on-some o (λ c. some (bs ++ c)) ≡ some x → (y : Name) × (o ≡ some y) × (bs ++ y ≡ x)
-  behind none bs x e = absurd (no-some e)
-  behind (some y) bs x e = (y, refl, inside e)
+  literal-rest : (o : Option Name) (bs x : Name) → on-some o (λ c. some (bs ++ c)) ≡ some x → (y : Name) × (o ≡ some y) × (bs ++ y ≡ x)
+  literal-rest none bs x e = absurd (no-some e)
+  literal-rest (some y) bs x e = (y, refl, inside e)
 
   track-literal : (ds : List (List QuotedByte)) (o : Option (List QuotedByte)) (q : Bool) (bs : List ℕ) (r : Word) (ws : Words) → Track ds o (and-part (literal q bs) r) ws → Track ds (some (so-far o ++ quote-bytes q bs)) r ws
   track-literal (f ∷ fs) o q bs r ws h = h
   track-literal [] none q bs r ws h =
       let p = picked (not q && has-wildcard bs) _ (h .0) (h .1) in
-      let d = behind (literal-word r) bs (h .0) (p .1) in
+      let d = literal-rest (literal-word r) bs (h .0) (p .1) in
       (d .0, d .1, pattern-quote q bs (p .0), subst Ok-name (sym (d .2) ∙ ap (λ z. z ++ d .0) (sym (bytes-quote q bs))) (h .2))
   track-literal [] (some f) q bs r ws h =
       let p = picked (not q && has-wildcard bs) _ (h .0) (h .1) in
-      let d = behind (literal-word r) bs (h .0) (p .1) in
+      let d = literal-rest (literal-word r) bs (h .0) (p .1) in
       let e : bytes-of f ++ bs ≡ bytes-of (f ++ quote-bytes q bs) = ap (λ z. bytes-of f ++ z) (sym (bytes-quote q bs)) ∙ sym (bytes-append f (quote-bytes q bs)) in
       (d .0, d .1, pattern-append f (quote-bytes q bs) (h .2) (pattern-quote q bs (p .0)), subst Ok-name (ap (λ z. bytes-of f ++ z) (sym (d .2)) ∙ sym (app-assoc (bytes-of f) bs (d .0)) ∙ ap (λ z. z ++ d .0) e) (h .3))
-
-  track-closed : (ds : List (List QuotedByte)) (o : Option (List QuotedByte)) (v : Word) (f : List QuotedByte) (o′ : Option (List QuotedByte)) (ws : Words) → Track (f ∷ ds) o v ws → Track (close-word o′ (f ∷ ds)) o v ws
-  track-closed ds o v f none ws h = h
-  track-closed ds o v f (some g) ws h = h
 
   track-split : (v : List ℕ) (o : Option (List QuotedByte)) (f : List QuotedByte) (fs : List (List QuotedByte)) (p : Word) (ws : Words) → (has-pattern f ≡ false) × Ok-name (bytes-of f) → Track ((split-blanks v o (f ∷ fs)) .complete) ((split-blanks v o (f ∷ fs)) .current) p ws
   track-split [] o f fs p ws h = h
@@ -399,7 +396,7 @@ module _ (b0 b1 : ℕ) where
   track-arguments fs (f ∷ ds) none h = arguments-of fs f ds (h .0) (h .1)
   track-arguments fs (f ∷ ds) (some g) h = arguments-of fs f (ds ++ (g ∷ [])) (h .0) (h .1)
 
-  -- words worked out
+  -- words that are expanded
   assignments-stays : (i : Bool) (s : System) (v : Process) (ss : Assignments) (ws : Words) (ts : Redirects) → Ok-assignments i ss → Ok-words i ws → Ok-redirects i i ts → Ok-first i ws → Between i (v .frames) (v .stdin) (v .stdout) → v .functions ≡ [] → v .jobs ≡ [] → Stays i s (step-assignments s v ss ws ts)
   assignments-stays i s v no-assignments no-words ts a b c d k f e = (record { place = (i, sees-start i (v .stdin) (k .1), tt, tt, (c, d, k)); functions = f; jobs = e }, same-files-if i s s refl)
   assignments-stays i s v no-assignments (and-word x ws) ts a b c d k f e = (record { place = (i, sees-start i (v .stdin) (k .1), b .1, b .0, (c, d, k)); functions = f; jobs = e }, same-files-if i s s refl)
@@ -417,7 +414,7 @@ module _ (b0 b1 : ℕ) where
   within-any (f-handles x y ∷ k) b b′ h = h
   within-any (f-arguments as₁ ∷ k) b b′ h = absurd h
 
-  -- from a step that reads on there is no $( )
+  -- behind a redirection that reads there is no $( )
   apply-strict : (i : Bool) (s : System) (w : Process) (m : RedirectKind) (x : List ℕ) (ts : Redirects) (t : AfterRedirects) → Ok-redirect i m → Ok-redirects i true ts → Ok-after i t → Within i (w .frames) (w .stdout) → w .functions ≡ [] → w .jobs ≡ [] → Stays i s (apply-redirect s w m x ts t)
   apply-strict true s w input x ts t o a b k f e = opt-stays true s (find-file (s .files) x) _ _ (record { place = inr k; functions = f; jobs = e }, refl) (λ z. (record { place = (true, tt, a, b, k); functions = f; jobs = e }, refl))
   apply-strict true s w output x ts t o a b k f e = false-true o
@@ -453,7 +450,7 @@ module _ (b0 b1 : ℕ) where
   expanded-stays i j s w x (to-select is) fr p q h f e = arms-stays i s w _ is (h .0) (h .1) f e
   expanded-stays i j s w x (to-match n l is) fr p q h f e = search (walk, arms-stays)
 
-  -- a step in a word keeps what is known of it
+  -- a step of the expansion keeps what is known of the first word
   at-purpose : (i j : Bool) (x z : Expansion) (y : Purpose) (k : List Frame) (a b : ℕ) → (First-word i x → First-word i z) → At-purpose i j x y k a b → At-purpose i j z y k a b
   at-purpose i j x z (to-assign n ss ws ts) k a b g h = h
   at-purpose i j x z (to-invoke ts) k a b g h = (h .0, g (h .1), h .2)
@@ -523,7 +520,6 @@ module _ (b0 b1 : ℕ) where
   list-stays i s w (next a false l) h k f e = search walk
   list-stays i s w (next a true l) h k f e = absurd h
 
-  -- the outcome of the whole pipe (many) leaves the frames as they were
   abbrev Is-single : Pipeline → Type 0
   Is-single (single c) = Unit {0}
   Is-single (piped c p) = ⊥
@@ -595,7 +591,7 @@ module _ (b0 b1 : ℕ) where
   wait-stays i s w n [] k f e = search walk
   wait-stays i s w n (p ∷ ps) k f e = opt-stays? i s (exit-status (s .exited) p) none _ tt (λ m. wait-stays i s w m ps k f e)
 
-  -- any step but the one that begins a pipe or a $( ), and those of one that captures
+  -- neither a pipeline nor a $( ) begins, and nothing is captured
   abbrev pub Not-pipeline : Control → Type 0
   Not-pipeline (at-list l) = Unit {0}
   Not-pipeline (at-and-or a) = Unit {0}
@@ -626,13 +622,13 @@ module _ (b0 b1 : ℕ) where
   pub step-disciplined : (i : Bool) (s : System) (w : Process) → Not-pipeline (w .control) → Stdout-stream i s → Disciplined i w → Stays? i s (step s w)
   step-disciplined i s w p h a = control-stays i s w (w .control) p h (a .place) (a .functions) (a .jobs)
 
-  -- in a pipe nobody begins one
-  no-run-w : (j : Bool) (a : ℕ) (v : Word) → Sees-start j true a → Ok-word j v → No-substitution v
-  no-run-w j a no-parts f h = tt
-  no-run-w j a (and-part (literal q b) v) f h = tt
-  no-run-w j a (and-part (parameter q x) v) f h = tt
-  no-run-w true a (and-part (substitution q l) v) f h = absurd (h .0 .0)
-  no-run-w false a (and-part (substitution q l) v) f h = absurd f
+  -- inside a pipeline none begins
+  no-substitution-word : (j : Bool) (a : ℕ) (v : Word) → Sees-start j true a → Ok-word j v → No-substitution v
+  no-substitution-word j a no-parts f h = tt
+  no-substitution-word j a (and-part (literal q b) v) f h = tt
+  no-substitution-word j a (and-part (parameter q x) v) f h = tt
+  no-substitution-word true a (and-part (substitution q l) v) f h = absurd (h .0 .0)
+  no-substitution-word false a (and-part (substitution q l) v) f h = absurd f
 
   not-pipeline-control : (c : Control) (k : List Frame) (a b : ℕ) → At true c k a b → Not-pipeline c
   not-pipeline-control (at-list l) k a b h = tt
@@ -640,7 +636,7 @@ module _ (b0 b1 : ℕ) where
   not-pipeline-control (at-pipeline n (single c)) k a b h = tt
   not-pipeline-control (at-pipeline n (piped c p)) k a b h = absurd (h .0)
   not-pipeline-control (at-command c) k a b h = tt
-  not-pipeline-control (at-words x y) k a b h = no-run-w (h .0) a (x .parts) (h .1) (h .3)
+  not-pipeline-control (at-words x y) k a b h = no-substitution-word (h .0) a (x .parts) (h .1) (h .3)
   not-pipeline-control (at-redirects ts t) k a b h = tt
   not-pipeline-control (at-builtin u) k a b h = tt
   not-pipeline-control (at-status n) k a b h = tt
@@ -651,15 +647,15 @@ module _ (b0 b1 : ℕ) where
   pub not-pipeline : (w : Process) → Disciplined true w → Not-pipeline (w .control)
   not-pipeline w f = not-pipeline-control (w .control) (w .frames) (w .stdin) (w .stdout) (f .place)
 
-  -- a $( ) begins: the process captures from now on, and what it has begun is as calm, and reads from where it began to
+  -- a $( ) begins: its list is as calm, and it reads from where the process began to read
   pub substitution-parts : (i : Bool) (x : Expansion) (y : Purpose) (q : Bool) (l : CommandList) (r : Word) (k : List Frame) (a b : ℕ) → x .parts ≡ and-part (substitution q l) r → Word-at i x y k a b → (i ≡ false) × (a ≡ b0) × Ok-list false l × Word-at false (with-parts x r) y k a b
   substitution-parts i x y q l r k a b e h = by i (h .0) (h .1) (subst (λ v. Ok-word (h .0) v) e (h .3)) (h .2) (h .4)
     where
-      by : (i j : Bool) → Sees-start j i a → (May j × Ok-list false l) × Ok-word j r → Ok-words j (x .words) → At-purpose i j x y k a b → (i ≡ false) × (a ≡ b0) × Ok-list false l × Word-at false (with-parts x r) y k a b
+      by : (i j : Bool) → Sees-start j i a → (Allowed j × Ok-list false l) × Ok-word j r → Ok-words j (x .words) → At-purpose i j x y k a b → (i ≡ false) × (a ≡ b0) × Ok-list false l × Word-at false (with-parts x r) y k a b
       by i true f g ws h = absurd (g .0 .0)
       by true false f g ws h = absurd f
       by false false f g ws h = (refl, f, g .0 .1, (false, f, ws, g .1, at-purpose false false x (with-parts x r) y k a b (λ z. tt) h))
 
-  -- and when all is gathered it goes on
+  -- what was captured is inserted
   pub captured-at : (x : Expansion) (y : Purpose) (q : Bool) (v : List ℕ) (k : List Frame) (a b : ℕ) → Word-at false x y k a b → Word-at false (insert-value x q v) y k a b
   captured-at x y q v k a b h = let c = insert-words (λ vs v. Ok-words (h .0) vs × Ok-word (h .0) v) x q v (h .2, h .3) in (h .0, h .1, c .0, c .1, at-purpose false (h .0) x (insert-value x q v) y k a b (λ z. tt) (h .4))

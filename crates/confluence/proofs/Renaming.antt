@@ -1,18 +1,17 @@
--- Two processes that differ only in the numbers of what they have open take the same steps.
-use mathlib.Core.Path.{_≡_, refl, sym, _∙_, ap, subst}
+-- Steps do not depend on the numbers of handles: two processes that are alike but for the numbers of their handles, in systems
+-- that are alike, take like steps.
+use mathlib.Core.Path.{_≡_, refl, subst}
 use mathlib.Core.Logic.{_⊎_, inl, inr}
-use mathlib.Core.Bool.{Bool, true, false, _&&_, _||_, not}
-use mathlib.Core.List.{List, [], _∷_, _++_}
-use mathlib.Core.Option.{Option, some, none}
-use Prim.Native.Nat.{ℕ, zero, suc}
-use native.Mathlib.Omega.{arith}
+use mathlib.Core.Bool.{Bool, false, true}
+use mathlib.Core.List.{[], _∷_, List}
+use mathlib.Core.Option.{none, Option, some}
+use Prim.Native.Nat.{suc, zero, ℕ}
 use lib.ListN.{length}
-use Rattle.syntax.specs.Base.{pick, opt, on-some, nth, put, Name}
-use Rattle.syntax.specs.Tree.{WordPart, literal, parameter, substitution, Word, no-parts, and-part, Words, no-words, and-word, Assignments, no-assignments, assign, RedirectKind, input, output, append, here, Redirects, no-redirects, redirect, Command, simple, group, subshell, if, while, for, case, function, ElsePart, no-else, else, Arms, no-arms, arm, Pipeline, single, piped, AndOr, first, joined, CommandList, end, next}
-use Rattle.meaning.specs.System.{QuotedByte, Function, function-body, Variable, File, Handle, file-read, file-append, pipe-read, pipe-write, host-input, host-paper, here-text, Builtin, b-done, b-print, b-cat, b-head, b-wc, b-grep, b-seq, b-yes, b-read, Expansion, AfterRedirects, then-invoke, then-command, Purpose, to-assign, to-invoke, to-redirect, to-loop, to-select, to-match, Unwind, break, continue, return, exit, Control, at-list, at-and-or, at-pipeline, at-command, at-words, at-redirects, at-builtin, at-status, at-unwind, at-wait, at-capture, Frame, f-list, f-and-or, f-not, f-if, f-condition, f-body, f-for, f-handles, f-arguments, Process, System, with-files, set-file, remove-file, find-file, ReadByte, got, at-end, must-wait, read-byte, WriteByte, wrote, pipe-full, no-reader, write-byte}
-use Rattle.meaning.specs.Words.{first-bytes, all-pathnames, close-word, test-status}
-use Rattle.meaning.specs.Step.{open-handle, with-io, apply-redirect, print-byte, read-or, cat-next, grep-line, grep-last, step-builtin, builtin-at, completes, step-wait, step-capture, with-status, with-variables, with-arguments, with-control, StepResult, continues, exits, goes-to, start-cat, start-seq, remove-files, run-builtin, invoke, step-assignments, step-arms, step-for, expanded, next-word, step-expansion, step-redirects, redirected, step-command, step-pipeline, step-and-or, step-list, step-else, step-status, step-unwind, step-control}
-use lib.Dec.{eqb}
+use Rattle.syntax.specs.Base.{Name, opt, pick}
+use Rattle.syntax.specs.Tree.{and-part, and-word, AndOr, append, arm, Arms, assign, Assignments, case, Command, CommandList, else, ElsePart, end, first, for, function, group, here, if, input, joined, literal, next, no-arms, no-assignments, no-else, no-parts, no-redirects, no-words, output, parameter, piped, Pipeline, redirect, RedirectKind, Redirects, simple, single, subshell, substitution, while, Word, Words}
+use Rattle.meaning.specs.System.{AfterRedirects, at-and-or, at-builtin, at-capture, at-command, at-end, at-list, at-pipeline, at-redirects, at-status, at-unwind, at-wait, at-words, b-cat, b-done, b-grep, b-head, b-print, b-read, b-seq, b-wc, b-yes, break, Builtin, continue, Control, exit, Expansion, f-and-or, f-arguments, f-body, f-condition, f-for, f-handles, f-if, f-list, f-not, File, file-append, file-read, find-file, Frame, got, Handle, here-text, host-input, host-paper, must-wait, no-reader, pipe-full, pipe-read, pipe-write, Process, Purpose, QuotedByte, read-byte, ReadByte, remove-file, return, set-file, System, then-command, then-invoke, to-assign, to-invoke, to-loop, to-match, to-redirect, to-select, Unwind, with-files, write-byte, WriteByte, wrote}
+use Rattle.meaning.specs.Words.{all-pathnames, close-word, first-bytes, test-status}
+use Rattle.meaning.specs.Step.{apply-redirect, builtin-at, cat-next, completes, continues, exits, expanded, goes-to, grep-last, invoke, next-word, open-handle, print-byte, read-or, redirected, remove-files, run-builtin, start-cat, start-seq, step-and-or, step-arms, step-assignments, step-builtin, step-command, step-control, step-expansion, step-for, step-list, step-pipeline, step-redirects, step-status, step-unwind, StepResult, with-io, with-status, with-variables}
 
 abbrev pub Private : Handle → Type 0
 Private (file-read x n) = Unit {0}
@@ -112,6 +111,8 @@ module _ (ρ : Bool → ℕ → ℕ → Type 0) where
     pub status : v .status ≡ w .status
     pub jobs : v .jobs ≡ w .jobs
 
+-- ρ relates the numbers of handles, with the flag: after a new handle was opened; Q relates the systems, Q′ after a new
+-- handle was opened
 module _ (ρ : Bool → ℕ → ℕ → Type 0) (Q Q′ : System → System → Type 0) (qf : (t y : System) → Q t y → t .files ≡ y .files) (cf : (t y : System) (fs : List File) → Q t y → Q (with-files t fs) (with-files y fs)) (oq : (t y : System) (o : Handle) → Private o → Q t y → Q′ (open-handle t o) (open-handle y o)) (fr : (t y : System) → Q t y → ρ true (length (t .handles)) (length (y .handles))) (up : (i j : ℕ) → ρ false i j → ρ true i j) where
   abbrev pub Like-result : System → System → StepResult → StepResult → Type 0
   Like-result s x (continues w t) (continues v y) = Like-process ρ false w v × Q t y
@@ -127,8 +128,8 @@ module _ (ρ : Bool → ℕ → ℕ → Type 0) (Q Q′ : System → System → 
   opt-like s x none o o′ f g h k = h
   opt-like s x (some a) o o′ f g h k = k a
 
-  on-like : (s x t y : System) (w v : Process) (a b : Control) (j l : List Frame) → Like-control ρ false a b → Like-frames ρ false j l → ρ false (w .stdin) (v .stdin) → ρ false (w .stdout) (v .stdout) → v .variables ≡ w .variables → v .functions ≡ w .functions → v .arguments ≡ w .arguments → v .status ≡ w .status → v .jobs ≡ w .jobs → Q t y → Like-result s x (goes-to t w a j) (goes-to y v b l)
-  on-like s x t y w v a b j l hc hk hi ho e1 e2 e3 e4 e5 f = (record { control = hc; frames = hk; stdin = hi; stdout = ho; variables = e1; functions = e2; arguments = e3; status = e4; jobs = e5 }, f)
+  goes-to-like : (s x t y : System) (w v : Process) (a b : Control) (j l : List Frame) → Like-control ρ false a b → Like-frames ρ false j l → ρ false (w .stdin) (v .stdin) → ρ false (w .stdout) (v .stdout) → v .variables ≡ w .variables → v .functions ≡ w .functions → v .arguments ≡ w .arguments → v .status ≡ w .status → v .jobs ≡ w .jobs → Q t y → Like-result s x (goes-to t w a j) (goes-to y v b l)
+  goes-to-like s x t y w v a b j l hc hk hi ho e1 e2 e3 e4 e5 f = (record { control = hc; frames = hk; stdin = hi; stdout = ho; variables = e1; functions = e2; arguments = e3; status = e4; jobs = e5 }, f)
 
   ruleset walk = (pick-like, opt-like, l-done, l-print, l-cat, l-cat-on, l-head, l-wc, l-grep, l-seq, l-yes, l-read, l-list, l-and-or, l-pipeline, l-command, l-words, l-redirects, l-builtin, l-status, l-unwind, l-wait, l-rest, l-joined, l-not, l-if, l-condition, l-body, l-for, l-handles, l-arguments)
 
@@ -157,7 +158,7 @@ module _ (ρ : Bool → ℕ → ℕ → Type 0) (Q Q′ : System → System → 
   start-seq-like s x w (a ∷ b ∷ e ∷ as₁) p c k i o f hk hi ho = search walk
 
   run-builtin-like : (s x : System) (w : Process) (n : Name) (as₁ : List (List ℕ)) (p : ℕ) (c : Control) (k : List Frame) (i o : ℕ) → Q s x → Like-frames ρ false (w .frames) k → ρ false (w .stdin) i → ρ false (w .stdout) o → Like-result s x (run-builtin s w n as₁) (run-builtin x (twin ρ w p c k i o) n as₁)
-  run-builtin-like s x w n as₁ p c k i o f hk hi ho = search (pick-like, opt-like, on-like, start-cat-like, start-seq-like, test-same, at-status-like, removed-like, l-builtin, l-print, l-done, l-head, l-wc, l-grep, l-yes, l-read, l-unwind, l-wait, l-status) depth 30 fits 5000
+  run-builtin-like s x w n as₁ p c k i o f hk hi ho = search (pick-like, opt-like, goes-to-like, start-cat-like, start-seq-like, test-same, at-status-like, removed-like, l-builtin, l-print, l-done, l-head, l-wc, l-grep, l-yes, l-read, l-unwind, l-wait, l-status) depth 30 fits 5000
 
   invoke-like : (s x : System) (w : Process) (as₁ : List (List ℕ)) (p : ℕ) (c : Control) (k : List Frame) (i o : ℕ) → Q s x → Like-frames ρ false (w .frames) k → ρ false (w .stdin) i → ρ false (w .stdout) o → Like-result s x (invoke s w as₁) (invoke x (twin ρ w p c k i o) as₁)
   invoke-like s x w [] p c k i o f hk hi ho = search walk
@@ -183,10 +184,6 @@ module _ (ρ : Bool → ℕ → ℕ → Type 0) (Q Q′ : System → System → 
   and-or-like : (s x : System) (w : Process) (a : AndOr) (p : ℕ) (c : Control) (k : List Frame) (i o : ℕ) → Q s x → Like-frames ρ false (w .frames) k → ρ false (w .stdin) i → ρ false (w .stdout) o → Like-result s x (step-and-or s w a) (step-and-or x (twin ρ w p c k i o) a)
   and-or-like s x w (first n q) p c k i o f hk hi ho = search walk
   and-or-like s x w (joined a b n q) p c k i o f hk hi ho = search walk
-
-  else-like : (s x : System) (w : Process) (l : ElsePart) (p : ℕ) (c : Control) (k : List Frame) (i o : ℕ) → Q s x → Like-frames ρ false (w .frames) k → ρ false (w .stdin) i → ρ false (w .stdout) o → Like-result s x (step-else s w l (w .frames)) (step-else x (twin ρ w p c k i o) l k)
-  else-like s x w no-else p c k i o f hk hi ho = search walk
-  else-like s x w (else l) p c k i o f hk hi ho = search walk
 
   status-like : (s x : System) (w : Process) (n : ℕ) (j k : List Frame) (p : ℕ) (c : Control) (l : List Frame) (i o : ℕ) → Q s x → Like-frames ρ false j k → ρ false (w .stdin) i → ρ false (w .stdout) o → Like-result s x (step-status s w n j) (step-status x (twin ρ w p c l i o) n k)
   status-like s x w n j k p c l i o f l-nil hi ho = search walk
@@ -261,16 +258,6 @@ module _ (ρ : Bool → ℕ → ℕ → Type 0) (Q Q′ : System → System → 
   expanded-like s x w fs (to-select is) p c k i o f hk hi ho h = arms-like s x w _ is p c k i o f hk hi ho
   expanded-like s x w fs (to-match a l is) p c k i o f hk hi ho h = search (walk, arms-like)
 
-  next-word-like : (s x : System) (w : Process) (a : Expansion) (vs : Words) (y : Purpose) (p : ℕ) (c : Control) (k : List Frame) (i o : ℕ) → Q s x → Like-frames ρ false (w .frames) k → ρ false (w .stdin) i → ρ false (w .stdout) o → Not-redirect y → Like-result s x (next-word s w a vs y) (next-word x (twin ρ w p c k i o) a vs y)
-  next-word-like s x w a no-words y p c k i o f hk hi ho h = expanded-like s x w (close-word (a .current) (a .complete)) y p c k i o f hk hi ho h
-  next-word-like s x w a (and-word v vs) y p c k i o f hk hi ho h = search walk
-
-  expansion-like : (s x : System) (w : Process) (a : Expansion) (v : Word) (y : Purpose) (p : ℕ) (c : Control) (k : List Frame) (i o : ℕ) → Q s x → Like-frames ρ false (w .frames) k → ρ false (w .stdin) i → ρ false (w .stdout) o → Not-redirect y → No-substitution v → Like-result s x (step-expansion s w a v y) (step-expansion x (twin ρ w p c k i o) a v y)
-  expansion-like s x w a no-parts y p c k i o f hk hi ho h g = next-word-like s x w a (a .words) y p c k i o f hk hi ho h
-  expansion-like s x w a (and-part (literal q bs) r) y p c k i o f hk hi ho h g = search walk
-  expansion-like s x w a (and-part (parameter q n) r) y p c k i o f hk hi ho h g = search walk
-  expansion-like s x w a (and-part (substitution q l) r) y p c k i o f hk hi ho h g = absurd g
-
   redirects-like : (s x : System) (w : Process) (ts : Redirects) (t : AfterRedirects) (p : ℕ) (c : Control) (k : List Frame) (i o : ℕ) → Q s x → Like-frames ρ false (w .frames) k → ρ false (w .stdin) i → ρ false (w .stdout) o → Like-result s x (step-redirects s w ts t) (step-redirects x (twin ρ w p c k i o) ts t)
   redirects-like s x w no-redirects (then-invoke as₁) p c k i o f hk hi ho = invoke-like s x w as₁ p c k i o f hk hi ho
   redirects-like s x w no-redirects (then-command d) p c k i o f hk hi ho = search walk
@@ -308,35 +295,35 @@ module _ (ρ : Bool → ℕ → ℕ → Type 0) (Q Q′ : System → System → 
   Like-step (some (exits n t)) (some (continues v y)) = ⊥
   Like-step (some (exits n t)) (some (exits m y)) = (n ≡ m) × Q t y
 
-  pick-like-i : (b : Bool) (o p o′ p′ : Option StepResult) → Like-step o o′ → Like-step p p′ → Like-step (pick b o p) (pick b o′ p′)
-  pick-like-i true o p o′ p′ h k = h
-  pick-like-i false o p o′ p′ h k = k
+  pick-like-step : (b : Bool) (o p o′ p′ : Option StepResult) → Like-step o o′ → Like-step p p′ → Like-step (pick b o p) (pick b o′ p′)
+  pick-like-step true o p o′ p′ h k = h
+  pick-like-step false o p o′ p′ h k = k
 
-  opt-like-i : {A : Type 0} (m : Option A) (o o′ : Option StepResult) (f g : A → Option StepResult) → Like-step o o′ → ((a : A) → Like-step (f a) (g a)) → Like-step (opt m o f) (opt m o′ g)
-  opt-like-i none o o′ f g h k = h
-  opt-like-i (some a) o o′ f g h k = k a
+  opt-like-step : {A : Type 0} (m : Option A) (o o′ : Option StepResult) (f g : A → Option StepResult) → Like-step o o′ → ((a : A) → Like-step (f a) (g a)) → Like-step (opt m o f) (opt m o′ g)
+  opt-like-step none o o′ f g h k = h
+  opt-like-step (some a) o o′ f g h k = k a
 
-  on-like-i : (t y : System) (w v : Process) (a b : Control) (j l : List Frame) → Like-control ρ false a b → Like-frames ρ false j l → ρ false (w .stdin) (v .stdin) → ρ false (w .stdout) (v .stdout) → v .variables ≡ w .variables → v .functions ≡ w .functions → v .arguments ≡ w .arguments → v .status ≡ w .status → v .jobs ≡ w .jobs → Q t y → Like-step (some (goes-to t w a j)) (some (goes-to y v b l))
-  on-like-i t y w v a b j l hc hk hi ho e1 e2 e3 e4 e5 f = inl (record { control = hc; frames = hk; stdin = hi; stdout = ho; variables = e1; functions = e2; arguments = e3; status = e4; jobs = e5 }, f)
+  goes-to-like-step : (t y : System) (w v : Process) (a b : Control) (j l : List Frame) → Like-control ρ false a b → Like-frames ρ false j l → ρ false (w .stdin) (v .stdin) → ρ false (w .stdout) (v .stdout) → v .variables ≡ w .variables → v .functions ≡ w .functions → v .arguments ≡ w .arguments → v .status ≡ w .status → v .jobs ≡ w .jobs → Q t y → Like-step (some (goes-to t w a j)) (some (goes-to y v b l))
+  goes-to-like-step t y w v a b j l hc hk hi ho e1 e2 e3 e4 e5 f = inl (record { control = hc; frames = hk; stdin = hi; stdout = ho; variables = e1; functions = e2; arguments = e3; status = e4; jobs = e5 }, f)
 
-  ruleset step-rules = (pick-like-i, opt-like-i, on-like-i, l-builtin, l-print, l-done, l-head, l-wc, l-grep, l-yes, l-read, l-seq, l-cat, l-cat-on, l-status, l-words)
+  ruleset step-rules = (pick-like-step, opt-like-step, goes-to-like-step, l-builtin, l-print, l-done, l-head, l-wc, l-grep, l-yes, l-read, l-seq, l-cat, l-cat-on, l-status, l-words)
 
-  weaken-k : (k j : List Frame) → Like-frames ρ false k j → Like-frames ρ true k j
-  weaken-k k j l-nil = l-nil
-  weaken-k k j (l-rest h) = l-rest (weaken-k _ _ h)
-  weaken-k k j (l-joined h) = l-joined (weaken-k _ _ h)
-  weaken-k k j (l-not h) = l-not (weaken-k _ _ h)
-  weaken-k k j (l-if h) = l-if (weaken-k _ _ h)
-  weaken-k k j (l-condition h) = l-condition (weaken-k _ _ h)
-  weaken-k k j (l-body h) = l-body (weaken-k _ _ h)
-  weaken-k k j (l-for h) = l-for (weaken-k _ _ h)
-  weaken-k k j (l-handles a b h) = l-handles (up _ _ a) (up _ _ b) (weaken-k _ _ h)
-  weaken-k k j (l-arguments h) = l-arguments (weaken-k _ _ h)
+  weaken-frames : (k j : List Frame) → Like-frames ρ false k j → Like-frames ρ true k j
+  weaken-frames k j l-nil = l-nil
+  weaken-frames k j (l-rest h) = l-rest (weaken-frames _ _ h)
+  weaken-frames k j (l-joined h) = l-joined (weaken-frames _ _ h)
+  weaken-frames k j (l-not h) = l-not (weaken-frames _ _ h)
+  weaken-frames k j (l-if h) = l-if (weaken-frames _ _ h)
+  weaken-frames k j (l-condition h) = l-condition (weaken-frames _ _ h)
+  weaken-frames k j (l-body h) = l-body (weaken-frames _ _ h)
+  weaken-frames k j (l-for h) = l-for (weaken-frames _ _ h)
+  weaken-frames k j (l-handles a b h) = l-handles (up _ _ a) (up _ _ b) (weaken-frames _ _ h)
+  weaken-frames k j (l-arguments h) = l-arguments (weaken-frames _ _ h)
 
-  on-open-i : (t y : System) (q : Handle) (w v : Process) (a b : Control) (j l : List Frame) → Private q → Q t y → Like-control ρ true a b → Like-frames ρ true j l → ρ true (w .stdin) (v .stdin) → ρ true (w .stdout) (v .stdout) → v .variables ≡ w .variables → v .functions ≡ w .functions → v .arguments ≡ w .arguments → v .status ≡ w .status → v .jobs ≡ w .jobs → Like-step (some (goes-to (open-handle t q) w a j)) (some (goes-to (open-handle y q) v b l))
-  on-open-i t y q w v a b j l po f hc hk hi ho e1 e2 e3 e4 e5 = inr (record { control = hc; frames = hk; stdin = hi; stdout = ho; variables = e1; functions = e2; arguments = e3; status = e4; jobs = e5 }, oq t y q po f)
+  open-like-step : (t y : System) (q : Handle) (w v : Process) (a b : Control) (j l : List Frame) → Private q → Q t y → Like-control ρ true a b → Like-frames ρ true j l → ρ true (w .stdin) (v .stdin) → ρ true (w .stdout) (v .stdout) → v .variables ≡ w .variables → v .functions ≡ w .functions → v .arguments ≡ w .arguments → v .status ≡ w .status → v .jobs ≡ w .jobs → Like-step (some (goes-to (open-handle t q) w a j)) (some (goes-to (open-handle y q) v b l))
+  open-like-step t y q w v a b j l po f hc hk hi ho e1 e2 e3 e4 e5 = inr (record { control = hc; frames = hk; stdin = hi; stdout = ho; variables = e1; functions = e2; arguments = e3; status = e4; jobs = e5 }, oq t y q po f)
 
-  ruleset open-rules = (step-rules, on-open-i, weaken-k)
+  ruleset open-rules = (step-rules, open-like-step, weaken-frames)
 
   read-like : (s x : System) (d e : ℕ) (f g : System → ℕ → Option StepResult) (z z′ : Option StepResult) → Like-read s x (read-byte s d) (read-byte x e) → ((t y : System) (b : ℕ) → Q t y → Like-step (f t b) (g y b)) → (Q s x → Like-step z z′) → Like-step (read-or s d f z) (read-or x e g z′)
   read-like s x d e f g z z′ h k l = by (read-byte s d) (read-byte x e) h refl refl
@@ -368,7 +355,7 @@ module _ (ρ : Bool → ℕ → ℕ → Type 0) (Q Q′ : System → System → 
 
   cat-next-like : (s x : System) (w : Process) (xs : List Name) (p : ℕ) (c : Control) (k : List Frame) (i o : ℕ) → Q s x → Like-frames ρ false (w .frames) k → ρ false (w .stdin) i → ρ false (w .stdout) o → Like-step (cat-next s w xs) (cat-next x (twin ρ w p c k i o) xs)
   cat-next-like s x w [] p c k i o f hk hi ho = search step-rules
-  cat-next-like s x w (a ∷ xs) p c k i o f hk hi ho = subst (λ fs₁. Like-step (cat-next s w (a ∷ xs)) (opt (find-file fs₁ a) (builtin-at x (twin ρ w p c k i o) (b-done 1)) (λ b. builtin-at (open-handle x (file-read a 0)) (twin ρ w p c k i o) (b-cat xs (some (length (x .handles))))))) (qf s x f) (search (open-rules, up, fr, cf) depth 7)
+  cat-next-like s x w (a ∷ xs) p c k i o f hk hi ho = subst (λ fs₁. Like-step (cat-next s w (a ∷ xs)) (opt (find-file fs₁ a) (builtin-at x (twin ρ w p c k i o) (b-done 1)) (λ b. builtin-at (open-handle x (file-read a 0)) (twin ρ w p c k i o) (b-cat xs (some (length (x .handles))))))) (qf s x f) (search (open-rules, up, fr) depth 7)
 
   grep-last-like : (s x : System) (w : Process) (q l : List ℕ) (b : Bool) (p : ℕ) (c : Control) (k : List Frame) (i o : ℕ) → Q s x → Like-frames ρ false (w .frames) k → ρ false (w .stdin) i → ρ false (w .stdout) o → Like-step (grep-last s w q l b) (grep-last x (twin ρ w p c k i o) q l b)
   grep-last-like s x w q [] b p c k i o f hk hi ho = search step-rules
@@ -408,10 +395,6 @@ module _ (ρ : Bool → ℕ → ℕ → Type 0) (Q Q′ : System → System → 
   of-result s x (exits n t) (continues v y) h = absurd h
   of-result s x (exits n t) (exits m y) h = (h .0, h .1)
 
-  same-some : (b : Bool) (o q : StepResult) → some (pick b o q) ≡ pick b (some o) (some q)
-  same-some true o q = refl
-  same-some false o q = refl
-
   opt-some : {A : Type 0} (m : Option A) (o : StepResult) (g : A → StepResult) → some (opt m o g) ≡ opt m (some o) (λ a. some (g a))
   opt-some none o g = refl
   opt-some (some a) o g = refl
@@ -440,8 +423,7 @@ module _ (ρ : Bool → ℕ → ℕ → Type 0) (Q Q′ : System → System → 
   expansion-step s x w a (and-part (parameter q m) r) y p c k i o f hk hi ho g = search step-rules
   expansion-step s x w a (and-part (substitution q l) r) y p c k i o f hk hi ho g = absurd g
 
-  -- nobody is made in this step
-  -- what is read and written comes out alike
+  -- what is read and written has the same answer
   abbrev pub Io-control : (s x : System) (w : Process) (i o : ℕ) (d e : Control) → Like-control ρ false d e → Type 0
   Io-control s x w i o d e l-list = Q s x
   Io-control s x w i o d e l-and-or = Q s x

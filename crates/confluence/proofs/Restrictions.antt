@@ -1,25 +1,21 @@
--- What a calm text keeps to, as a property of trees.
-use mathlib.Core.Path.{_≡_, refl, sym, _∙_, ap, subst}
-use mathlib.Core.Logic.{_⊎_, inl, inr}
-use mathlib.Core.Bool.{Bool, true, false, _&&_, _||_, not}
-use mathlib.Core.List.{List, [], _∷_, _++_}
-use mathlib.Core.Option.{Option, some, none}
-use Prim.Native.Nat.{ℕ, zero, suc, _+_, _*_, max, _≤_, _<_}
+-- What a calm text keeps to, as a property of trees: inside a pipeline no further pipeline and no $( ), redirections only
+-- read, and the first word is written out and isn't rm.
+use mathlib.Core.Path.{_≡_, refl}
+use mathlib.Core.Bool.{_&&_, _||_, Bool, false, not, true}
+use mathlib.Core.List.{[], _++_, _∷_, List}
+use mathlib.Core.Option.{none, Option, some}
+use Prim.Native.Nat.{_≤_}
 use native.Mathlib.Omega.{arith}
-use lib.ListN.{length}
-use lib.Dec.{eqb, ltb, T, eqb→eq, eqb-refl}
-use Rattle.syntax.specs.Base.{pick, opt, on-some, nth, put, Name, same}
-use Rattle.syntax.specs.Tree.{WordPart, literal, parameter, substitution, Word, no-parts, and-part, Words, no-words, and-word, Assignments, no-assignments, assign, RedirectKind, input, output, append, here, Redirects, no-redirects, redirect, Command, simple, group, subshell, if, while, for, case, function, ElsePart, no-else, else, Arms, no-arms, arm, Pipeline, single, piped, AndOr, first, joined, CommandList, end, next}
-use Rattle.syntax.specs.Stage.{has-wildcard, part-stage, word-stage, words-stage, assignments-stage, redirects-stage, command-stage, arms-stage, else-stage, pipeline-stage, and-or-stage, list-stage}
-use Rattle.meaning.specs.System.{QuotedByte, Function, function-body, Handle, file-read, file-append, pipe-read, pipe-write, host-input, host-paper, here-text, Builtin, b-done, b-print, b-cat, b-head, b-wc, b-grep, b-seq, b-yes, b-read, Expansion, AfterRedirects, then-invoke, then-command, Purpose, to-assign, to-invoke, to-redirect, to-loop, to-select, to-match, Unwind, break, continue, return, exit, Control, at-list, at-and-or, at-pipeline, at-command, at-words, at-redirects, at-builtin, at-status, at-unwind, at-wait, at-capture, Frame, f-list, f-and-or, f-not, f-if, f-condition, f-body, f-for, f-handles, f-arguments, Process, System, with-files, remove-file, ReadByte, got, at-end, must-wait, read-byte, read-input, read-text, read-handle, read-pipe, WriteByte, wrote, pipe-full, no-reader, write-byte, write-handle, write-pipe, held, writes-pipe, reads-pipe, find-file, with-handles, find-process, replace, without, exit-status, with-pipes, File}
-use Rattle.meaning.specs.Words.{split-blanks, SplitWord, so-far, quote-bytes, bytes-of, has-pattern, pathnames, all-pathnames, close-word, insert-value, with-parts, parameter-value, expand-word, expand-words, first-bytes, is-blank, or-literal, matching-names}
-use Rattle.meaning.specs.Step.{name-rm, name-read, with-status, with-variables, with-arguments, StepResult, continues, exits, goes-to, spawn, new-pipe, spawn-pipeline, start-cat, start-seq, remove-files, run-builtin, invoke, print-byte, read-or, cat-next, grep-line, grep-last, step-builtin, step-assignments, step-arms, step-for, expanded, next-word, step-expansion, step-redirects, redirected, step-command, step-pipeline, step-and-or, step-list, step-else, step-status, step-unwind, step-wait, step-capture, step-control, step, settle, move, moves, initial, enabled, apply-redirect}
-use Rattle.meaning.specs.Calm.{calm-part, calm-word, calm-words, calm-assignments, calm-redirects, calm-command, calm-else, calm-arms, calm-pipeline, calm-members, calm-and-or, calm-list, reads, reads-only, harmless, without-redirects, literal-word}
-use Rattle.meaning.proofs.Own.{inside}
-use Rattle.meaning.proofs.Core.{no-some}
-use Rattle.confluence.proofs.Renaming.{No-substitution}
+use Rattle.syntax.specs.Base.{Name, opt, same}
+use Rattle.syntax.specs.Tree.{and-part, and-word, AndOr, arm, Arms, assign, Assignments, case, Command, CommandList, else, ElsePart, end, first, for, function, group, if, joined, literal, next, no-arms, no-assignments, no-else, no-parts, no-redirects, no-words, parameter, piped, Pipeline, redirect, RedirectKind, Redirects, simple, single, subshell, substitution, while, Word, WordPart, Words}
+use Rattle.syntax.specs.Stage.{and-or-stage, arms-stage, assignments-stage, command-stage, else-stage, list-stage, part-stage, pipeline-stage, redirects-stage, word-stage, words-stage}
+use Rattle.meaning.specs.System.{Expansion, QuotedByte}
+use Rattle.meaning.specs.Words.{bytes-of, expand-words, has-pattern}
+use Rattle.meaning.specs.Step.{name-read, name-rm}
+use Rattle.meaning.specs.Calm.{calm-and-or, calm-arms, calm-assignments, calm-command, calm-else, calm-list, calm-members, calm-part, calm-pipeline, calm-redirects, calm-word, calm-words, harmless, literal-word, reads, reads-only, without-redirects}
+use Rattle.confluence.proofs.Basics.{both, false-true}
 
--- j: no $( ) in words; in a pipe (i) steps only read, and the first word is written out and isn't rm
+-- i: inside a pipeline; j: no $( ) may stand here
 abbrev pub Ok-redirect : Bool → RedirectKind → Type 0
 Ok-redirect true k = reads k ≡ true
 Ok-redirect false k = Unit {0}
@@ -27,7 +23,7 @@ Ok-redirect false k = Unit {0}
 abbrev pub Ok-name : Name → Type 0
 Ok-name x = same x name-rm ≡ false
 
--- the first word, as far as it is worked out: words done, this one, its parts, words to come
+-- the first word as far as it is expanded: complete words, the current one, its parts to come, words to come
 abbrev pub Track : List (List QuotedByte) → Option (List QuotedByte) → Word → Words → Type 0
 Track (f ∷ fs) o p ws = (has-pattern f ≡ false) × Ok-name (bytes-of f)
 Track [] (some f) p ws = (x : Name) × (literal-word p ≡ some x) × (has-pattern f ≡ false) × Ok-name (bytes-of f ++ x)
@@ -46,9 +42,9 @@ abbrev pub No-redirects : Redirects → Type 0
 No-redirects no-redirects = Unit {0}
 No-redirects (redirect k w ts) = ⊥
 
-abbrev pub May : Bool → Type 0
-May true = ⊥
-May false = Unit {0}
+abbrev pub Allowed : Bool → Type 0
+Allowed true = ⊥
+Allowed false = Unit {0}
 
 abbrev mutual
   pub Ok-word : Bool → Word → Type 0
@@ -58,7 +54,7 @@ abbrev mutual
   pub Ok-part : Bool → WordPart → Type 0
   Ok-part j (literal q b) = Unit {0}
   Ok-part j (parameter q x) = Unit {0}
-  Ok-part j (substitution q l) = May j × Ok-list false l
+  Ok-part j (substitution q l) = Allowed j × Ok-list false l
 
   pub Ok-words : Bool → Words → Type 0
   Ok-words j no-words = Unit {0}
@@ -108,18 +104,7 @@ abbrev mutual
   Ok-list i (next a true l) = ⊥
   Ok-list i (next a false l) = Ok-and-or i a × Ok-list i l
 
--- and calm texts of stage 4 are so
-abbrev No : Bool → Type 0
-No true = ⊥
-No false = Unit {0}
-
-pub both : (a b : Bool) → (a && b) ≡ true → (a ≡ true) × (b ≡ true)
-both true b e = (refl, e)
-both false b e = absurd (subst No e tt)
-
-pub false-true : {A : Type 0} → false ≡ true → A
-false-true e = absurd (subst No e tt)
-
+-- calm texts up to stage 4 keep to it
 pub no-redirects-of : (ts : Redirects) → without-redirects ts ≡ true → No-redirects ts
 no-redirects-of no-redirects e = tt
 no-redirects-of (redirect k w ts) e = false-true e

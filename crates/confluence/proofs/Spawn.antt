@@ -1,47 +1,21 @@
--- A pipe begins.
-use mathlib.Core.Path.{_≡_, refl, sym, _∙_, ap, subst}
-use mathlib.Core.Logic.{_⊎_, inl, inr}
-use mathlib.Core.Bool.{Bool, true, false, _&&_, _||_, not}
-use mathlib.Core.List.{List, [], _∷_, _++_}
-use mathlib.Core.Option.{Option, some, none}
-use Prim.Native.Nat.{ℕ, zero, suc, _+_, _≤_, _<_}
+-- The system right after a pipeline is spawned: its processes, handles and pipes.
+use mathlib.Core.Path.{_∙_, _≡_, ap, refl, subst, sym}
+use mathlib.Core.Bool.{Bool, false, true}
+use mathlib.Core.List.{[], _++_, _∷_, List}
+use mathlib.Core.Option.{none, some}
+use Prim.Native.Nat.{_+_, _<_, suc, zero, ℕ}
 use native.Mathlib.Omega.{arith}
 use lib.ListN.{length}
-use lib.Dec.{eqb, ltb}
-use Rattle.syntax.specs.Base.{pick, opt, on-some, nth, put}
-use Rattle.syntax.specs.Tree.{Pipeline, single, piped, Command}
-use Rattle.meaning.specs.System.{Handle, file-read, file-append, pipe-read, pipe-write, host-input, host-paper, here-text, Control, at-command, at-wait, Frame, Process, Exited, System, with-processes, find-process, replace, exit-status}
-use Rattle.meaning.specs.Step.{spawn, new-pipe, spawn-pipeline, pipeline-length, with-control, pids-from}
-use Rattle.meaning.proofs.Own.{inside}
+use lib.Dec.{eqb}
+use Rattle.syntax.specs.Base.{nth, pick}
+use Rattle.syntax.specs.Tree.{Command, piped, Pipeline, single}
+use Rattle.meaning.specs.System.{at-command, find-process, Handle, pipe-read, pipe-write, Process, System}
+use Rattle.meaning.specs.Step.{new-pipe, pipeline-length, spawn, spawn-pipeline}
 use Rattle.meaning.proofs.Core.{no-some}
+use Rattle.confluence.proofs.Basics.{app-assoc, app-nil, eqb-no, eqb-self, length-snoc, length-two, nth-lt, nth-new, nth-old, nth-one, nth-two}
 use Rattle.confluence.proofs.Restrictions.{Ok-command, Ok-members}
-use Rattle.confluence.proofs.Discipline.{Disciplined}
-use Rattle.confluence.proofs.Lists.{nth-lt, nth-old, nth-new, length-snoc, app-nil, app-assoc}
-use Rattle.confluence.proofs.Simulation.{equal-or-not}
-use Rattle.confluence.proofs.Pipeline.{Unique}
+use Rattle.confluence.proofs.Processes.{Unique}
 use Rattle.confluence.proofs.Path.{member-command}
-
-length-two : {A : Type 0} (xs : List A) (a b : A) → length (xs ++ (a ∷ b ∷ [])) ≡ suc (suc (length xs))
-length-two [] a b = refl
-length-two (x ∷ xs) a b = omega (arith, length-two xs a b)
-
-nth-two : {A : Type 0} (xs : List A) (a b : A) → nth (xs ++ (a ∷ b ∷ [])) (suc (length xs)) ≡ some b
-nth-two [] a b = refl
-nth-two (x ∷ xs) a b = nth-two xs a b
-
-nth-one : {A : Type 0} (xs : List A) (a b : A) → nth (xs ++ (a ∷ b ∷ [])) (length xs) ≡ some a
-nth-one [] a b = refl
-nth-one (x ∷ xs) a b = nth-one xs a b
-
-eqb-self : (n : ℕ) → eqb n n ≡ true
-eqb-self n = grind arith
-
-eqb-no : (a b : ℕ) → (a ≡ b → ⊥) → eqb a b ≡ false
-eqb-no a b d = by (eqb a b) refl
-  where
-    by : (z : Bool) → eqb a b ≡ z → z ≡ false
-    by true e = absurd (d (grind arith))
-    by false e = refl
 
 abbrev pub member : Process → Command → ℕ → ℕ → ℕ → Process
 member w c n i o = record { pid = n; control = at-command c; frames = []; stdin = i; stdout = o; variables = w .variables; functions = w .functions; arguments = w .arguments; status = w .status; jobs = [] }
@@ -145,31 +119,31 @@ stdout-open X oo (single c) q l o j e f h = nth-old X [] o (nth-lt X o oo f) ∙
 stdout-open X oo (piped c p) q l o zero e f h = ap (λ z. nth z (suc l)) (sym (app-assoc X (pipe-read q ∷ pipe-write q ∷ []) (new-handles p (suc q)))) ∙ nth-old (X ++ (pipe-read q ∷ pipe-write q ∷ [])) (new-handles p (suc q)) (suc l) (omega (arith, length-two X (pipe-read q) (pipe-write q), e)) ∙ subst (λ z. nth (X ++ (pipe-read q ∷ pipe-write q ∷ [])) (suc z) ≡ some (pipe-write q)) e (nth-two X (pipe-read q) (pipe-write q))
 stdout-open X oo (piped c p) q l o (suc j) e f h = ap (λ z. nth z (stdout-at o p (suc (suc l)) j)) (sym (app-assoc X (pipe-read q ∷ pipe-write q ∷ []) (new-handles p (suc q)))) ∙ stdout-open (X ++ (pipe-read q ∷ pipe-write q ∷ [])) oo p (suc q) (suc (suc l)) o j (length-two X (pipe-read q) (pipe-write q) ∙ ap (λ z. suc (suc z)) e) (nth-old X _ o (nth-lt X o oo f) ∙ f) (omega arith)
 
-pub pipe-new : (Y : List (List ℕ)) (p : Pipeline) (j l : ℕ) → length Y ≡ l → suc j < pipeline-length p → nth (Y ++ new-pipes p) (l + j) ≡ some []
-pipe-new Y (single c) j l e h = absurd (omega arith)
-pipe-new Y (piped c p) zero l e h = ap (λ z. nth z (l + 0)) (sym (app-assoc Y ([] ∷ []) (new-pipes p))) ∙ nth-old (Y ++ ([] ∷ [])) (new-pipes p) (l + 0) (omega (arith, length-snoc Y [], e)) ∙ subst (λ z. nth (Y ++ ([] ∷ [])) z ≡ some []) (omega (arith, e)) (nth-new Y [])
-pipe-new Y (piped c p) (suc j) l e h = ap (λ z. nth z (l + suc j)) (sym (app-assoc Y ([] ∷ []) (new-pipes p))) ∙ subst (λ z. nth ((Y ++ ([] ∷ [])) ++ new-pipes p) z ≡ some []) (omega arith) (pipe-new (Y ++ ([] ∷ [])) p j (suc l) (length-snoc Y [] ∙ ap (λ z. suc z) e) (omega arith))
+pub new-pipe-empty : (Y : List (List ℕ)) (p : Pipeline) (j l : ℕ) → length Y ≡ l → suc j < pipeline-length p → nth (Y ++ new-pipes p) (l + j) ≡ some []
+new-pipe-empty Y (single c) j l e h = absurd (omega arith)
+new-pipe-empty Y (piped c p) zero l e h = ap (λ z. nth z (l + 0)) (sym (app-assoc Y ([] ∷ []) (new-pipes p))) ∙ nth-old (Y ++ ([] ∷ [])) (new-pipes p) (l + 0) (omega (arith, length-snoc Y [], e)) ∙ subst (λ z. nth (Y ++ ([] ∷ [])) z ≡ some []) (omega (arith, e)) (nth-new Y [])
+new-pipe-empty Y (piped c p) (suc j) l e h = ap (λ z. nth z (l + suc j)) (sym (app-assoc Y ([] ∷ []) (new-pipes p))) ∙ subst (λ z. nth ((Y ++ ([] ∷ [])) ++ new-pipes p) z ≡ some []) (omega arith) (new-pipe-empty (Y ++ ([] ∷ [])) p j (suc l) (length-snoc Y [] ∙ ap (λ z. suc z) e) (omega arith))
 
-pub in-nexts : (o : Handle) (p : Pipeline) (q j : ℕ) → suc j < pipeline-length p → input-at o p q (suc j) ≡ pipe-read (q + j)
-in-nexts o (single c) q j h = absurd (omega arith)
-in-nexts o (piped c p) q zero h = ap pipe-read (omega arith)
-in-nexts o (piped c p) q (suc j) h = in-nexts (pipe-read q) p (suc q) j (omega arith) ∙ ap pipe-read (omega arith)
+pub input-of-next : (o : Handle) (p : Pipeline) (q j : ℕ) → suc j < pipeline-length p → input-at o p q (suc j) ≡ pipe-read (q + j)
+input-of-next o (single c) q j h = absurd (omega arith)
+input-of-next o (piped c p) q zero h = ap pipe-read (omega arith)
+input-of-next o (piped c p) q (suc j) h = input-of-next (pipe-read q) p (suc q) j (omega arith) ∙ ap pipe-read (omega arith)
 
-pub out-outs : (oo : Handle) (p : Pipeline) (q j : ℕ) → suc j < pipeline-length p → output-at oo p q j ≡ pipe-write (q + j)
-out-outs oo (single c) q j h = absurd (omega arith)
-out-outs oo (piped c p) q zero h = ap pipe-write (omega arith)
-out-outs oo (piped c p) q (suc j) h = out-outs oo p (suc q) j (omega arith) ∙ ap pipe-write (omega arith)
+pub output-to-next : (oo : Handle) (p : Pipeline) (q j : ℕ) → suc j < pipeline-length p → output-at oo p q j ≡ pipe-write (q + j)
+output-to-next oo (single c) q j h = absurd (omega arith)
+output-to-next oo (piped c p) q zero h = ap pipe-write (omega arith)
+output-to-next oo (piped c p) q (suc j) h = output-to-next oo p (suc q) j (omega arith) ∙ ap pipe-write (omega arith)
 
-pub out-last : (oo : Handle) (p : Pipeline) (q j : ℕ) → suc j ≡ pipeline-length p → output-at oo p q j ≡ oo
-out-last oo (single c) q j h = refl
-out-last oo (piped c p) q zero h = absurd (zero-many p (omega (arith, h)))
+pub output-of-last : (oo : Handle) (p : Pipeline) (q j : ℕ) → suc j ≡ pipeline-length p → output-at oo p q j ≡ oo
+output-of-last oo (single c) q j h = refl
+output-of-last oo (piped c p) q zero h = absurd (zero-many p (omega (arith, h)))
   where
     zero-many : (p : Pipeline) → pipeline-length p ≡ 0 → ⊥
     zero-many (single c) e = absurd (omega (arith, e))
     zero-many (piped c p) e = absurd (omega (arith, e))
-out-last oo (piped c p) q (suc j) h = out-last oo p (suc q) j (omega (arith, h))
+output-of-last oo (piped c p) q (suc j) h = output-of-last oo p (suc q) j (omega (arith, h))
 
-pub ok-at : (p : Pipeline) (j : ℕ) → Ok-members p → Ok-command true (member-command p j)
-ok-at (single c) j h = h
-ok-at (piped c p) zero h = h .0
-ok-at (piped c p) (suc j) h = ok-at p j (h .1)
+pub member-ok : (p : Pipeline) (j : ℕ) → Ok-members p → Ok-command true (member-command p j)
+member-ok (single c) j h = h
+member-ok (piped c p) zero h = h .0
+member-ok (piped c p) (suc j) h = member-ok p j (h .1)
