@@ -88,7 +88,8 @@ Is-pipe host-input = ⊥
 Is-pipe host-paper = ⊥
 Is-pipe (here-text bs) = ⊥
 
-pub other-pipe : (i o : Handle) (s mid : System) (e : Event) (q : ℕ) → Effect i o s e mid → ((p : ℕ) → i ≡ pipe-read p → p ≡ q → ⊥) → ((p : ℕ) → o ≡ pipe-write p → p ≡ q → ⊥) → nth (mid .pipes) q ≡ nth (s .pipes) q
+pub other-pipe : (i o : Handle) (s mid : System) (e : Event) (q : ℕ) → Effect i o s e mid → ((p : ℕ) → i ≡ pipe-read p → p ≡ q → ⊥)
+    → ((p : ℕ) → o ≡ pipe-write p → p ≡ q → ⊥) → nth (mid .pipes) q ≡ nth (s .pipes) q
 other-pipe i o s mid e q x-silent a b = refl
 other-pipe i o s mid e q (x-read {p = p} {bs = bs} f h) a b = put-other (s .pipes) p q bs (a p f)
 other-pipe i o s mid e q (x-end h) a b = refl
@@ -104,32 +105,60 @@ same-outputs es e h = outputs-snoc es e ∙ ap (λ z. outputs es ++ z) h ∙ app
 same-inputs : (es : List Event) (e : Event) → inputs (e ∷ []) ≡ [] → inputs (es ++ (e ∷ [])) ≡ inputs es
 same-inputs es e h = inputs-snoc es e ∙ ap (λ z. inputs es ++ z) h ∙ app-nil (inputs es)
 
-pub writer-contents : (i o : Handle) (s mid : System) (e : Event) (q : ℕ) (es : List Event) (is : List (Option ℕ)) → Effect i o s e mid → o ≡ pipe-write q → ((p : ℕ) → i ≡ pipe-read p → p ≡ q → ⊥) → Contents s q is (outputs es) false → Contents mid q is (outputs (es ++ (e ∷ []))) false
+pub writer-contents : (i o : Handle) (s mid : System) (e : Event) (q : ℕ) (es : List Event) (is : List (Option ℕ)) → Effect i o s e mid
+    → o ≡ pipe-write q → ((p : ℕ) → i ≡ pipe-read p → p ≡ q → ⊥) → Contents s q is (outputs es) false
+    → Contents mid q is (outputs (es ++ (e ∷ []))) false
 writer-contents i o s mid e q es is x-silent f a t = (t .0, t .1, subst (λ g. Buffered is g (t .0) false) (sym (same-outputs es e-silent refl)) (t .2))
-writer-contents i o s mid e q es is (x-read {p = p} {b = b} {bs = bs} g h) f a t = (t .0, put-other (s .pipes) p q bs (a p g) ∙ t .1, subst (λ g. Buffered is g (t .0) false) (sym (same-outputs es (e-read (some b)) refl)) (t .2))
+writer-contents i o s mid e q es is (x-read {p = p} {b = b} {bs = bs} g h) f a t = (
+  t .0,
+  put-other (s .pipes) p q bs (a p g) ∙ t .1,
+  subst (λ g. Buffered is g (t .0) false) (sym (same-outputs es (e-read (some b)) refl)) (t .2),
+)
 writer-contents i o s mid e q es is (x-end h) f a t = (t .0, t .1, subst (λ g. Buffered is g (t .0) false) (sym (same-outputs es (e-read none) refl)) (t .2))
 writer-contents i o s mid e q es is (x-paper h) f a t = absurd (subst Is-pipe (sym f ∙ h) tt)
 writer-contents i o s mid e q es is (x-pipe {p = p} {b = b} {bs = bs} g h) f a t =
     let n : p ≡ q = ap pipe-number (sym g ∙ f) in
-    let k : bs ≡ t .0 = inside (sym h ∙ ap (λ z. nth (s .pipes) z) n ∙ t .1) in
-    (bs ++ (b ∷ []), ap (λ z. nth (put (s .pipes) z (bs ++ (b ∷ []))) q) n ∙ put-same (s .pipes) q (bs ++ (b ∷ [])) (nth-lt (s .pipes) q (t .0) (t .1)), subst (λ g. Buffered is g (bs ++ (b ∷ [])) false) (sym (outputs-snoc es (e-write b))) (buffered-wrote is (outputs es) bs b (subst (λ z. Buffered is (outputs es) z false) (sym k) (t .2))))
+    let k : bs ≡ t .0 = inside (sym h ∙ ap (λ z. nth (s .pipes) z) n ∙ t .1) in (
+      bs ++ (b ∷ []),
+      ap (λ z. nth (put (s .pipes) z (bs ++ (b ∷ []))) q) n ∙ put-same (s .pipes) q (bs ++ (b ∷ []))
+          (nth-lt (s .pipes) q (t .0) (t .1)),
+      subst (λ g. Buffered is g (bs ++ (b ∷ [])) false) (sym (outputs-snoc es (e-write b)))
+          (buffered-wrote is (outputs es) bs b (subst (λ z. Buffered is (outputs es) z false) (sym k) (t .2))),
+    )
 
-pub reader-contents : (i o : Handle) (s mid : System) (e : Event) (q : ℕ) (es : List Event) (gs : List ℕ) (c : Bool) → Effect i o s e mid → i ≡ pipe-read q → ((p : ℕ) → o ≡ pipe-write p → p ≡ q → ⊥) → (held (s .handles) (writes-pipe q) (s .processes) ≡ false → c ≡ true) → Contents s q (inputs es) gs c → Contents mid q (inputs (es ++ (e ∷ []))) gs c
+pub reader-contents : (i o : Handle) (s mid : System) (e : Event) (q : ℕ) (es : List Event) (gs : List ℕ) (c : Bool) → Effect i o s e mid
+    → i ≡ pipe-read q → ((p : ℕ) → o ≡ pipe-write p → p ≡ q → ⊥) → (held (s .handles) (writes-pipe q) (s .processes) ≡ false → c ≡ true)
+    → Contents s q (inputs es) gs c → Contents mid q (inputs (es ++ (e ∷ []))) gs c
 reader-contents i o s mid e q es gs c x-silent f a w t = (t .0, t .1, subst (λ g. Buffered g gs (t .0) c) (sym (same-inputs es e-silent refl)) (t .2))
 reader-contents i o s mid e q es gs c (x-read {p = p} {b = b} {bs = bs} g h) f a w t =
     let n : p ≡ q = ap pipe-number (sym g ∙ f) in
-    let k : (b ∷ bs) ≡ t .0 = inside (sym h ∙ ap (λ z. nth (s .pipes) z) n ∙ t .1) in
-    (bs, ap (λ z. nth (put (s .pipes) z bs) q) n ∙ put-same (s .pipes) q bs (nth-lt (s .pipes) q (t .0) (t .1)), subst (λ g. Buffered g gs bs c) (sym (inputs-snoc es (e-read (some b)))) (buffered-got (inputs es) gs bs b c (subst (λ z. Buffered (inputs es) gs z c) (sym k) (t .2))))
+    let k : (b ∷ bs) ≡ t .0 = inside (sym h ∙ ap (λ z. nth (s .pipes) z) n ∙ t .1) in (
+      bs,
+      ap (λ z. nth (put (s .pipes) z bs) q) n ∙ put-same (s .pipes) q bs (nth-lt (s .pipes) q (t .0) (t .1)),
+      subst (λ g. Buffered g gs bs c) (sym (inputs-snoc es (e-read (some b)))) (buffered-got (inputs es) gs bs b c
+          (subst (λ z. Buffered (inputs es) gs z c) (sym k) (t .2))),
+    )
 reader-contents i o s mid e q es gs c (x-end h) f a w t =
     let g : (nth (s .pipes) q ≡ some []) × (held (s .handles) (writes-pipe q) (s .processes) ≡ false) = subst (λ z. Ended z s) f h in
     let k : [] ≡ t .0 = inside (sym (g .0) ∙ t .1) in
-    let d = w (g .1) in
-    ([], g .0, subst (λ z. Buffered (inputs (es ++ (e-read none ∷ []))) gs [] z) (sym d) (subst (λ z. Buffered z gs [] true) (sym (inputs-snoc es (e-read none))) (buffered-end (inputs es) gs (subst (λ z. Buffered (inputs es) gs [] z) d (subst (λ z. Buffered (inputs es) gs z c) (sym k) (t .2))))))
+    let d = w (g .1) in (
+      [],
+      g .0,
+      subst (λ z. Buffered (inputs (es ++ (e-read none ∷ []))) gs [] z) (sym d)
+          (subst (λ z. Buffered z gs [] true) (sym (inputs-snoc es (e-read none))) (buffered-end (inputs es) gs
+          (subst (λ z. Buffered (inputs es) gs [] z) d (subst (λ z. Buffered (inputs es) gs z c) (sym k) (t .2))))),
+    )
 reader-contents i o s mid e q es gs c (x-paper {b = b} h) f a w t = (t .0, t .1, subst (λ g. Buffered g gs (t .0) c) (sym (same-inputs es (e-write b) refl)) (t .2))
-reader-contents i o s mid e q es gs c (x-pipe {p = p} {b = b} {bs = bs} g h) f a w t = (t .0, put-other (s .pipes) p q (bs ++ (b ∷ [])) (a p g) ∙ t .1, subst (λ g. Buffered g gs (t .0) c) (sym (same-inputs es (e-write b) refl)) (t .2))
+reader-contents i o s mid e q es gs c (x-pipe {p = p} {b = b} {bs = bs} g h) f a w t = (
+  t .0,
+  put-other (s .pipes) p q (bs ++ (b ∷ [])) (a p g)
+      ∙ t .1,
+  subst (λ g. Buffered g gs (t .0) c) (sym (same-inputs es (e-write b) refl)) (t .2),
+)
 
 -- the first member reads nothing
-pub first-input : (i o : Handle) (s mid : System) (e : Event) (es : List Event) → Effect i o s e mid → i ≡ host-input → Buffered (inputs es) [] [] true → Buffered (inputs (es ++ (e ∷ []))) [] [] true
+pub first-input : (i o : Handle) (s mid : System) (e : Event) (es : List Event) → Effect i o s e mid → i ≡ host-input
+    → Buffered (inputs es) [] [] true → Buffered (inputs (es ++ (e ∷ []))) [] [] true
 first-input i o s mid e es x-silent f t = subst (λ g. Buffered g [] [] true) (sym (same-inputs es e-silent refl)) t
 first-input i o s mid e es (x-read g h) f t = absurd (subst Is-pipe (sym g ∙ f) tt)
 first-input i o s mid e es (x-end h) f t = subst (λ z. Buffered z [] [] true) (sym (inputs-snoc es (e-read none))) (buffered-end (inputs es) [] t)
@@ -176,10 +205,21 @@ fixed-output host-input h = tt
 fixed-output host-paper h = tt
 fixed-output (here-text bs) h = absurd h
 
-pub same-handles : (i o : Handle) (table : List ℕ) (s t : System) (w : Process) (y : Local) → t .handles ≡ s .handles → t .files ≡ s .files → Simulates i o table s w y → Simulates i o table t w y
-same-handles i o table s t w y e f l = record { like = l .like; agrees = record { lengths = l .agrees .lengths; within = λ a n r. subst (λ os. n < length os) (sym e) (l .agrees .within a n r); once = l .agrees .once; alike = λ a n r. subst (λ os. Alike i o (nth os n) (nth (y .system .handles) a)) (sym e) (l .agrees .alike a n r); files = f ∙ l .agrees .files } }
+pub same-handles : (i o : Handle) (table : List ℕ) (s t : System) (w : Process) (y : Local) → t .handles ≡ s .handles → t .files ≡ s .files
+    → Simulates i o table s w y → Simulates i o table t w y
+same-handles i o table s t w y e f l = record {
+  like = l .like;
+  agrees = record {
+    lengths = l .agrees .lengths;
+    within = λ a n r. subst (λ os. n < length os) (sym e) (l .agrees .within a n r);
+    once = l .agrees .once;
+    alike = λ a n r. subst (λ os. Alike i o (nth os n) (nth (y .system .handles) a)) (sym e) (l .agrees .alike a n r);
+    files = f ∙ l .agrees .files;
+  };
+}
 
-pub effect-pipe : (i o : Handle) (s mid : System) (e : Event) (p : ℕ) → Effect i o s e mid → (cs : List ℕ) × (nth (s .pipes) p ≡ some cs) → (cs : List ℕ) × (nth (mid .pipes) p ≡ some cs)
+pub effect-pipe : (i o : Handle) (s mid : System) (e : Event) (p : ℕ) → Effect i o s e mid → (cs : List ℕ) × (nth (s .pipes) p ≡ some cs)
+    → (cs : List ℕ) × (nth (mid .pipes) p ≡ some cs)
 effect-pipe i o s mid e p x-silent h = h
 effect-pipe i o s mid e p (x-read {p = r} {bs = bs} f g) h = by (equal-or-not r p)
   where

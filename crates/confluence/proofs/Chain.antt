@@ -77,13 +77,26 @@ module _ (X : Type 0) (step : X → Action X) where
 
   pub deterministic : (es fs : List Event) (x y z : X) → Trace x es y → Trace x fs z → Comparable (inputs es) (inputs fs) → Together es fs y z
   deterministic [] [] x y z r q c = (inl tt, λ n g. tt, λ n m g h. cc (ap step r, ap step q, g, h))
-  deterministic [] (e-silent ∷ fs) x y z r q c = (inl tt, λ n g. one-action x (finished n) _ (ap step r ∙ g) (q .1) (λ e. absurd (omega arith)), λ n m g h. one-action x (finished n) _ (ap step r ∙ g) (q .1) (λ e. absurd (omega arith)))
-  deterministic [] (e-read o ∷ fs) x y z r q c = (inl tt, λ n g. one-action x (finished n) _ (ap step r ∙ g) (q .1 .1) (λ e. absurd (omega arith)), λ n m g h. one-action x (finished n) _ (ap step r ∙ g) (q .1 .1) (λ e. absurd (omega arith)))
-  deterministic [] (e-write b ∷ fs) x y z r q c = (inl tt, λ n g. one-action x (finished n) _ (ap step r ∙ g) (q .1) (λ e. absurd (omega arith)), λ n m g h. one-action x (finished n) _ (ap step r ∙ g) (q .1) (λ e. absurd (omega arith)))
+  deterministic [] (e-silent ∷ fs) x y z r q c = (
+    inl tt,
+    λ n g. one-action x (finished n) _ (ap step r ∙ g) (q .1) (λ e. absurd (omega arith)),
+    λ n m g h. one-action x (finished n) _ (ap step r ∙ g) (q .1) (λ e. absurd (omega arith)),
+  )
+  deterministic [] (e-read o ∷ fs) x y z r q c = (
+    inl tt,
+    λ n g. one-action x (finished n) _ (ap step r ∙ g) (q .1 .1) (λ e. absurd (omega arith)),
+    λ n m g h. one-action x (finished n) _ (ap step r ∙ g) (q .1 .1) (λ e. absurd (omega arith)),
+  )
+  deterministic [] (e-write b ∷ fs) x y z r q c = (
+    inl tt,
+    λ n g. one-action x (finished n) _ (ap step r ∙ g) (q .1) (λ e. absurd (omega arith)),
+    λ n m g h. one-action x (finished n) _ (ap step r ∙ g) (q .1) (λ e. absurd (omega arith)),
+  )
   deterministic (e-silent ∷ es) [] x y z r q c = (inr tt, λ n g. tt, λ n m g h. one-action x (finished m) _ (ap step q ∙ h) (r .1) (λ e. absurd (omega arith)))
   deterministic (e-read o ∷ es) [] x y z r q c = (inr tt, λ n g. tt, λ n m g h. one-action x (finished m) _ (ap step q ∙ h) (r .1 .1) (λ e. absurd (omega arith)))
   deterministic (e-write b ∷ es) [] x y z r q c = (inr tt, λ n g. tt, λ n m g h. one-action x (finished m) _ (ap step q ∙ h) (r .1) (λ e. absurd (omega arith)))
-  deterministic (e-silent ∷ es) (e-silent ∷ fs) x y z r q c = together-cons _ _ es fs y z refl (deterministic es fs (r .0) y z (r .2) (subst (λ u. Trace u fs z) (cc (r .1, q .1)) (q .2)) c)
+  deterministic (e-silent ∷ es) (e-silent ∷ fs) x y z r q c = together-cons _ _ es fs y z refl
+      (deterministic es fs (r .0) y z (r .2) (subst (λ u. Trace u fs z) (cc (r .1, q .1)) (q .2)) c)
   deterministic (e-silent ∷ es) (e-read o ∷ fs) x y z r q c = one-action x _ _ (r .1) (q .1 .1) (λ e. absurd (omega arith))
   deterministic (e-silent ∷ es) (e-write b ∷ fs) x y z r q c = one-action x _ _ (r .1) (q .1) (λ e. absurd (omega arith))
   deterministic (e-read o ∷ es) (e-silent ∷ fs) x y z r q c = one-action x _ _ (r .1 .1) (q .1) (λ e. absurd (omega arith))
@@ -156,7 +169,8 @@ module _ (X : Type 0) (step : X → Action X) where
   -- has exited
   abbrev pub Row : X → List X → List ℕ → Bool → List ℕ → ℕ → Type 0
   Row x [] ts c o n = (es : List Event) × (y : X) × Trace x es y × Read-from (inputs es) ts c × (step y ≡ finished n) × (outputs es ≡ o)
-  Row x (x′ ∷ xs) ts c o n = (es : List Event) × (y : X) × (d : Bool) × Trace x es y × Read-from (inputs es) ts c × (d ≡ true → (m : ℕ) × (step y ≡ finished m)) × Row x′ xs (outputs es) d o n
+  Row x (x′ ∷ xs) ts c o n = (es : List Event) × (y : X) × (d : Bool) × Trace x es y × Read-from (inputs es) ts c
+      × (d ≡ true → (m : ℕ) × (step y ≡ finished m)) × Row x′ xs (outputs es) d o n
 
   pub same-output : (xs : List X) (x : X) (ts bs : List ℕ) (c d : Bool) (o o′ : List ℕ) (n n′ : ℕ) → Row x xs ts c o n → Row x xs bs d o′ n′ → Agree ts c bs d → (o ≡ o′) × (n ≡ n′)
   same-output [] x ts bs c d o o′ n n′ h k g =
@@ -169,4 +183,8 @@ module _ (X : Type 0) (step : X → Action X) where
       let p = read-comparable (inputs (h .0)) (inputs (k .0)) ts bs c d (h .4) (k .4) g in
       let q = deterministic (h .0) (k .0) x (h .1) (k .1) (h .3) (k .3) p in
       let r = deterministic (k .0) (h .0) x (k .1) (h .1) (k .3) (h .3) (comparable-sym (inputs (h .0)) (inputs (k .0)) p) in
-      same-output xs x′ (outputs (h .0)) (outputs (k .0)) (h .2) (k .2) o o′ n n′ (h .6) (k .6) (outputs-comparable (h .0) (k .0) (q .0), λ e. let f = h .5 e in outputs-prefix (k .0) (h .0) (q .1 (f .0) (f .1)), λ e. let f = k .5 e in outputs-prefix (h .0) (k .0) (r .1 (f .0) (f .1)))
+      same-output xs x′ (outputs (h .0)) (outputs (k .0)) (h .2) (k .2) o o′ n n′ (h .6) (k .6) (
+        outputs-comparable (h .0) (k .0) (q .0),
+        λ e. let f = h .5 e in outputs-prefix (k .0) (h .0) (q .1 (f .0) (f .1)),
+        λ e. let f = k .5 e in outputs-prefix (h .0) (k .0) (r .1 (f .0) (f .1)),
+      )

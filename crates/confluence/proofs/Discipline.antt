@@ -120,7 +120,8 @@ module _ (b0 b1 : ℕ) where
   Stays? i s none = Unit {0}
   Stays? i s (some o) = Stays i s o
 
-  on-stays : (i : Bool) (s t : System) (w : Process) (c : Control) (k : List Frame) → At i c k (w .stdin) (w .stdout) → w .functions ≡ [] → w .jobs ≡ [] → Same-files i s t → Stays i s (goes-to t w c k)
+  on-stays : (i : Bool) (s t : System) (w : Process) (c : Control) (k : List Frame) → At i c k (w .stdin) (w .stdout) → w .functions ≡ []
+      → w .jobs ≡ [] → Same-files i s t → Stays i s (goes-to t w c k)
   on-stays i s t w c k h f e g = (record { place = h; functions = f; jobs = e }, g)
 
   pick-stays : (i : Bool) (s : System) (b : Bool) (x y : StepResult) → Stays i s x → Stays i s y → Stays i s (pick b x y)
@@ -138,7 +139,8 @@ module _ (b0 b1 : ℕ) where
   pick-stays? i s true x y h k = h
   pick-stays? i s false x y h k = k
 
-  opt-stays? : {A : Type 0} (i : Bool) (s : System) (o : Option A) (x : Option StepResult) (f : A → Option StepResult) → Stays? i s x → ((a : A) → Stays? i s (f a)) → Stays? i s (opt o x f)
+  opt-stays? : {A : Type 0} (i : Bool) (s : System) (o : Option A) (x : Option StepResult) (f : A → Option StepResult) → Stays? i s x
+      → ((a : A) → Stays? i s (f a)) → Stays? i s (opt o x f)
   opt-stays? i s none x f h k = h
   opt-stays? i s (some a) x f h k = k a
 
@@ -157,13 +159,16 @@ module _ (b0 b1 : ℕ) where
   wait-none : (i : Bool) (ps : List ℕ) (k : List Frame) (a b : ℕ) → ps ≡ [] → Within i k b → At i (at-wait ps) k a b
   wait-none i ps k a b e h = rw e (inr h)
 
-  run-builtin-stays : (i : Bool) (s : System) (w : Process) (x : Name) (as₁ : List (List ℕ)) → Ok-arguments i (x ∷ as₁) → Within i (w .frames) (w .stdout) → w .functions ≡ [] → w .jobs ≡ [] → Stays i s (run-builtin s w x as₁)
+  run-builtin-stays : (i : Bool) (s : System) (w : Process) (x : Name) (as₁ : List (List ℕ)) → Ok-arguments i (x ∷ as₁)
+      → Within i (w .frames) (w .stdout) → w .functions ≡ [] → w .jobs ≡ [] → Stays i s (run-builtin s w x as₁)
   run-builtin-stays true s w x as₁ n k f e = search (walk, pick-not, cat-stays, seq-stays, wait-none) depth 30 fits 3000
   run-builtin-stays false s w x as₁ n k f e = search (walk, cat-stays, seq-stays, wait-none) depth 30 fits 3000
 
-  invoke-stays : (i : Bool) (s : System) (w : Process) (as₁ : List (List ℕ)) → Ok-arguments i as₁ → Within i (w .frames) (w .stdout) → w .functions ≡ [] → w .jobs ≡ [] → Stays i s (invoke s w as₁)
+  invoke-stays : (i : Bool) (s : System) (w : Process) (as₁ : List (List ℕ)) → Ok-arguments i as₁ → Within i (w .frames) (w .stdout)
+      → w .functions ≡ [] → w .jobs ≡ [] → Stays i s (invoke s w as₁)
   invoke-stays i s w [] n k f e = search walk
-  invoke-stays i s w (a ∷ as₁) n k f e = subst (λ fs. Stays i s (opt (function-body fs a) (run-builtin s w a as₁) (λ l. goes-to s (with-arguments w as₁) (at-list l) (f-arguments (w .arguments) ∷ w .frames)))) (sym f) (run-builtin-stays i s w a as₁ n k f e)
+  invoke-stays i s w (a ∷ as₁) n k f e = subst (λ fs. Stays i s (opt (function-body fs a) (run-builtin s w a as₁)
+      (λ l. goes-to s (with-arguments w as₁) (at-list l) (f-arguments (w .arguments) ∷ w .frames)))) (sym f) (run-builtin-stays i s w a as₁ n k f e)
 
   -- reading changes no file, and writing to what is no file
   abbrev Read-files : System → ReadByte → Type 0
@@ -262,7 +267,8 @@ module _ (b0 b1 : ℕ) where
       by (some host-paper) g = refl
       by (some (here-text bs)) g = absurd g
 
-  read-stays : (i : Bool) (s : System) (d : ℕ) (f : System → ℕ → Option StepResult) (z : Option StepResult) → ((t : System) (b : ℕ) → t .files ≡ s .files → Stays? i s (f t b)) → Stays? i s z → Stays? i s (read-or s d f z)
+  read-stays : (i : Bool) (s : System) (d : ℕ) (f : System → ℕ → Option StepResult) (z : Option StepResult)
+      → ((t : System) (b : ℕ) → t .files ≡ s .files → Stays? i s (f t b)) → Stays? i s z → Stays? i s (read-or s d f z)
   read-stays i s d f z k h = by (read-byte s d) (read-files s d) refl
     where
       by : (g : ReadByte) → Read-files s g → read-byte s d ≡ g → Stays? i s (read-or s d f z)
@@ -282,7 +288,8 @@ module _ (b0 b1 : ℕ) where
   stdout-of i (f-handles x y ∷ k) b h = h .3
   stdout-of i (f-arguments as₁ ∷ k) b h = absurd h
 
-  print-stays : (i : Bool) (s : System) (w : Process) (bs : List ℕ) (u : Builtin) → Stdout-stream i s → Within i (w .frames) (w .stdout) → w .functions ≡ [] → w .jobs ≡ [] → Stays? i s (print-byte s w bs u)
+  print-stays : (i : Bool) (s : System) (w : Process) (bs : List ℕ) (u : Builtin) → Stdout-stream i s → Within i (w .frames) (w .stdout)
+      → w .functions ≡ [] → w .jobs ≡ [] → Stays? i s (print-byte s w bs u)
   print-stays i s w [] u h k f e = search walk
   print-stays i s w (b ∷ bs) u h k f e = by (write-byte s (w .stdout) b) (write-files i s (w .stdout) b (stdout-of i (w .frames) (w .stdout) k) h) refl
     where
@@ -295,11 +302,13 @@ module _ (b0 b1 : ℕ) where
   cat-next-stays i s w [] k f e = search walk
   cat-next-stays i s w (x ∷ xs) k f e = search walk
 
-  grep-last-stays : (i : Bool) (s : System) (w : Process) (p l : List ℕ) (b : Bool) → Within i (w .frames) (w .stdout) → w .functions ≡ [] → w .jobs ≡ [] → Stays? i s (grep-last s w p l b)
+  grep-last-stays : (i : Bool) (s : System) (w : Process) (p l : List ℕ) (b : Bool) → Within i (w .frames) (w .stdout) → w .functions ≡ []
+      → w .jobs ≡ [] → Stays? i s (grep-last s w p l b)
   grep-last-stays i s w p [] b k f e = search walk
   grep-last-stays i s w p (c ∷ cs) b k f e = search walk
 
-  builtin-stays : (i : Bool) (s : System) (w : Process) (u : Builtin) → Stdout-stream i s → Within i (w .frames) (w .stdout) → w .functions ≡ [] → w .jobs ≡ [] → Stays? i s (step-builtin s w u)
+  builtin-stays : (i : Bool) (s : System) (w : Process) (u : Builtin) → Stdout-stream i s → Within i (w .frames) (w .stdout) → w .functions ≡ []
+      → w .jobs ≡ [] → Stays? i s (step-builtin s w u)
   builtin-stays i s w (b-done n) h k f e = search walk
   builtin-stays i s w (b-print bs u) h k f e = print-stays i s w bs u h k f e
   builtin-stays i s w (b-cat xs none) h k f e = cat-next-stays i s w xs k f e
@@ -347,7 +356,8 @@ module _ (b0 b1 : ℕ) where
   literal-rest none bs x e = absurd (no-some e)
   literal-rest (some y) bs x e = (y, refl, inside e)
 
-  track-literal : (ds : List (List QuotedByte)) (o : Option (List QuotedByte)) (q : Bool) (bs : List ℕ) (r : Word) (ws : Words) → Track ds o (and-part (literal q bs) r) ws → Track ds (some (so-far o ++ quote-bytes q bs)) r ws
+  track-literal : (ds : List (List QuotedByte)) (o : Option (List QuotedByte)) (q : Bool) (bs : List ℕ) (r : Word) (ws : Words)
+      → Track ds o (and-part (literal q bs) r) ws → Track ds (some (so-far o ++ quote-bytes q bs)) r ws
   track-literal (f ∷ fs) o q bs r ws h = h
   track-literal [] none q bs r ws h =
       let p = picked (not q && has-wildcard bs) _ (h .0) (h .1) in
@@ -356,23 +366,37 @@ module _ (b0 b1 : ℕ) where
   track-literal [] (some f) q bs r ws h =
       let p = picked (not q && has-wildcard bs) _ (h .0) (h .1) in
       let d = literal-rest (literal-word r) bs (h .0) (p .1) in
-      let e : bytes-of f ++ bs ≡ bytes-of (f ++ quote-bytes q bs) = ap (λ z. bytes-of f ++ z) (sym (bytes-quote q bs)) ∙ sym (bytes-append f (quote-bytes q bs)) in
-      (d .0, d .1, pattern-append f (quote-bytes q bs) (h .2) (pattern-quote q bs (p .0)), subst Ok-name (ap (λ z. bytes-of f ++ z) (sym (d .2)) ∙ sym (app-assoc (bytes-of f) bs (d .0)) ∙ ap (λ z. z ++ d .0) e) (h .3))
+      let e : bytes-of f ++ bs ≡ bytes-of (f ++ quote-bytes q bs) = ap (λ z. bytes-of f ++ z) (sym (bytes-quote q bs)) ∙ sym (bytes-append f (quote-bytes q bs)) in (
+        d .0,
+        d .1,
+        pattern-append f (quote-bytes q bs) (h .2) (pattern-quote q bs (p .0)),
+        subst Ok-name (ap (λ z. bytes-of f ++ z) (sym (d .2)) ∙ sym (app-assoc (bytes-of f) bs (d .0)) ∙ ap (λ z. z ++ d .0) e) (h .3),
+      )
 
-  track-split : (v : List ℕ) (o : Option (List QuotedByte)) (f : List QuotedByte) (fs : List (List QuotedByte)) (p : Word) (ws : Words) → (has-pattern f ≡ false) × Ok-name (bytes-of f) → Track ((split-blanks v o (f ∷ fs)) .complete) ((split-blanks v o (f ∷ fs)) .current) p ws
+  track-split : (v : List ℕ) (o : Option (List QuotedByte)) (f : List QuotedByte) (fs : List (List QuotedByte)) (p : Word) (ws : Words)
+      → (has-pattern f ≡ false) × Ok-name (bytes-of f) → Track ((split-blanks v o (f ∷ fs)) .complete) ((split-blanks v o (f ∷ fs)) .current) p ws
   track-split [] o f fs p ws h = h
   track-split (b ∷ bs) none f fs p ws h = pick-split (is-blank b) _ _ (track-split bs none f fs p ws h) (track-split bs _ f fs p ws h)
     where
-      pick-split : (z : Bool) (x y : SplitWord) → Track (x .complete) (x .current) p ws → Track (y .complete) (y .current) p ws → Track ((pick z x y) .complete) ((pick z x y) .current) p ws
+      pick-split : (z : Bool) (x y : SplitWord) → Track (x .complete) (x .current) p ws → Track (y .complete) (y .current) p ws
+          → Track ((pick z x y) .complete) ((pick z x y) .current) p ws
       pick-split true x y h k = h
       pick-split false x y h k = k
   track-split (b ∷ bs) (some g) f fs p ws h = pick-split (is-blank b) _ _ (track-split bs none f (fs ++ (g ∷ [])) p ws h) (track-split bs _ f fs p ws h)
     where
-      pick-split : (z : Bool) (x y : SplitWord) → Track (x .complete) (x .current) p ws → Track (y .complete) (y .current) p ws → Track ((pick z x y) .complete) ((pick z x y) .current) p ws
+      pick-split : (z : Bool) (x y : SplitWord) → Track (x .complete) (x .current) p ws → Track (y .complete) (y .current) p ws
+          → Track ((pick z x y) .complete) ((pick z x y) .current) p ws
       pick-split true x y h k = h
       pick-split false x y h k = k
 
-  track-parameter : (sp q : Bool) (v : List ℕ) (n : Name) (r : Word) (ws : Words) (ds : List (List QuotedByte)) (o : Option (List QuotedByte)) → Track ds o (and-part (parameter q n) r) ws → First-word true (insert-value (record { words = ws; parts = r; current = o; complete = ds; split = sp }) q v)
+  track-parameter : (sp q : Bool) (v : List ℕ) (n : Name) (r : Word) (ws : Words) (ds : List (List QuotedByte)) (o : Option (List QuotedByte))
+      → Track ds o (and-part (parameter q n) r) ws → First-word true (insert-value (record {
+        words = ws;
+        parts = r;
+        current = o;
+        complete = ds;
+        split = sp;
+      }) q v)
   track-parameter sp q v n r ws [] none h = absurd (no-some (h .1))
   track-parameter sp q v n r ws [] (some f) h = absurd (no-some (h .1))
   track-parameter sp q v n r ws (f ∷ fs) o h = by (sp && not q) _ _ (track-split v o f fs r ws h) h
@@ -390,17 +414,47 @@ module _ (b0 b1 : ℕ) where
   arguments-of : (fs : List File) (f : List QuotedByte) (ds : List (List QuotedByte)) → has-pattern f ≡ false → Ok-name (bytes-of f) → Ok-arguments true (all-pathnames fs (f ∷ ds))
   arguments-of fs f ds e h = subst (λ z. Ok-arguments true (pick z (or-literal f (matching-names f fs)) (bytes-of f ∷ []) ++ all-pathnames fs ds)) (sym e) h
 
-  track-arguments : (fs : List File) (ds : List (List QuotedByte)) (o : Option (List QuotedByte)) → Track ds o no-parts no-words → Ok-arguments true (all-pathnames fs (close-word o ds))
+  track-arguments : (fs : List File) (ds : List (List QuotedByte)) (o : Option (List QuotedByte)) → Track ds o no-parts no-words
+      → Ok-arguments true (all-pathnames fs (close-word o ds))
   track-arguments fs [] none h = tt
   track-arguments fs [] (some f) h = arguments-of fs f [] (h .2) (subst Ok-name (ap (λ z. bytes-of f ++ z) (sym (inside (h .1))) ∙ app-nil (bytes-of f)) (h .3))
   track-arguments fs (f ∷ ds) none h = arguments-of fs f ds (h .0) (h .1)
   track-arguments fs (f ∷ ds) (some g) h = arguments-of fs f (ds ++ (g ∷ [])) (h .0) (h .1)
 
   -- words that are expanded
-  assignments-stays : (i : Bool) (s : System) (v : Process) (ss : Assignments) (ws : Words) (ts : Redirects) → Ok-assignments i ss → Ok-words i ws → Ok-redirects i i ts → Ok-first i ws → Between i (v .frames) (v .stdin) (v .stdout) → v .functions ≡ [] → v .jobs ≡ [] → Stays i s (step-assignments s v ss ws ts)
-  assignments-stays i s v no-assignments no-words ts a b c d k f e = (record { place = (i, sees-start i (v .stdin) (k .1), tt, tt, (c, d, k)); functions = f; jobs = e }, same-files-if i s s refl)
-  assignments-stays i s v no-assignments (and-word x ws) ts a b c d k f e = (record { place = (i, sees-start i (v .stdin) (k .1), b .1, b .0, (c, d, k)); functions = f; jobs = e }, same-files-if i s s refl)
-  assignments-stays i s v (assign x y ss) ws ts a b c d k f e = (record { place = (i, sees-start i (v .stdin) (k .1), tt, a .0, (a .1, b, c, d, k)); functions = f; jobs = e }, same-files-if i s s refl)
+  assignments-stays : (i : Bool) (s : System) (v : Process) (ss : Assignments) (ws : Words) (ts : Redirects) → Ok-assignments i ss → Ok-words i ws
+      → Ok-redirects i i ts → Ok-first i ws → Between i (v .frames) (v .stdin) (v .stdout) → v .functions ≡ [] → v .jobs ≡ []
+      → Stays i s (step-assignments s v ss ws ts)
+  assignments-stays i s v no-assignments no-words ts a b c d k f e = (
+    record {
+      place = (i, sees-start i (v .stdin) (k .1), tt, tt, (c, d, k));
+      functions = f;
+      jobs = e;
+    },
+    same-files-if i s s refl,
+  )
+  assignments-stays i s v no-assignments (and-word x ws) ts a b c d k f e = (
+    record {
+      place = (
+        i,
+        sees-start i (v .stdin) (k .1),
+        b .1,
+        b .0,
+        (c, d, k),
+      );
+      functions = f;
+      jobs = e;
+    },
+    same-files-if i s s refl,
+  )
+  assignments-stays i s v (assign x y ss) ws ts a b c d k f e = (
+    record {
+      place = (i, sees-start i (v .stdin) (k .1), tt, a .0, (a .1, b, c, d, k));
+      functions = f;
+      jobs = e;
+    },
+    same-files-if i s s refl,
+  )
 
   within-any : (k : List Frame) (b b′ : ℕ) → Within false k b → Within false k b′
   within-any [] b b′ h = absurd h
@@ -415,35 +469,89 @@ module _ (b0 b1 : ℕ) where
   within-any (f-arguments as₁ ∷ k) b b′ h = absurd h
 
   -- behind a redirection that reads there is no $( )
-  apply-strict : (i : Bool) (s : System) (w : Process) (m : RedirectKind) (x : List ℕ) (ts : Redirects) (t : AfterRedirects) → Ok-redirect i m → Ok-redirects i true ts → Ok-after i t → Within i (w .frames) (w .stdout) → w .functions ≡ [] → w .jobs ≡ [] → Stays i s (apply-redirect s w m x ts t)
-  apply-strict true s w input x ts t o a b k f e = opt-stays true s (find-file (s .files) x) _ _ (record { place = inr k; functions = f; jobs = e }, refl) (λ z. (record { place = (true, tt, a, b, k); functions = f; jobs = e }, refl))
+  apply-strict : (i : Bool) (s : System) (w : Process) (m : RedirectKind) (x : List ℕ) (ts : Redirects) (t : AfterRedirects) → Ok-redirect i m
+      → Ok-redirects i true ts → Ok-after i t → Within i (w .frames) (w .stdout) → w .functions ≡ [] → w .jobs ≡ []
+      → Stays i s (apply-redirect s w m x ts t)
+  apply-strict true s w input x ts t o a b k f e = opt-stays true s (find-file (s .files) x) _ _ (
+    record { place = inr k; functions = f; jobs = e },
+    refl,
+  ) (λ z. (record { place = (true, tt, a, b, k); functions = f; jobs = e }, refl))
   apply-strict true s w output x ts t o a b k f e = false-true o
   apply-strict true s w append x ts t o a b k f e = false-true o
   apply-strict true s w here x ts t o a b k f e = (record { place = (true, tt, a, b, k); functions = f; jobs = e }, refl)
-  apply-strict false s w input x ts t o a b k f e = opt-stays false s (find-file (s .files) x) _ _ (record { place = inr k; functions = f; jobs = e }, tt) (λ z. (record { place = (true, tt, a, b, k); functions = f; jobs = e }, tt))
+  apply-strict false s w input x ts t o a b k f e = opt-stays false s (find-file (s .files) x) _ _ (
+    record { place = inr k; functions = f; jobs = e },
+    tt,
+  ) (λ z. (record { place = (true, tt, a, b, k); functions = f; jobs = e }, tt))
   apply-strict false s w output x ts t o a b k f e = (record { place = (true, tt, a, b, within-any (w .frames) (w .stdout) (length (s .handles)) k); functions = f; jobs = e }, tt)
   apply-strict false s w append x ts t o a b k f e = (record { place = (true, tt, a, b, within-any (w .frames) (w .stdout) (length (s .handles)) k); functions = f; jobs = e }, tt)
   apply-strict false s w here x ts t o a b k f e = (record { place = (true, tt, a, b, k); functions = f; jobs = e }, tt)
 
-  apply-stays : (i j : Bool) (s : System) (w : Process) (m : RedirectKind) (x : List ℕ) (ts : Redirects) (t : AfterRedirects) → Sees-start j i (w .stdin) → Ok-redirect i m → Ok-redirects i (j || reads m) ts → Ok-after i t → Within i (w .frames) (w .stdout) → w .functions ≡ [] → w .jobs ≡ [] → Stays i s (apply-redirect s w m x ts t)
+  apply-stays : (i j : Bool) (s : System) (w : Process) (m : RedirectKind) (x : List ℕ) (ts : Redirects) (t : AfterRedirects)
+      → Sees-start j i (w .stdin) → Ok-redirect i m → Ok-redirects i (j || reads m) ts → Ok-after i t → Within i (w .frames) (w .stdout)
+      → w .functions ≡ [] → w .jobs ≡ [] → Stays i s (apply-redirect s w m x ts t)
   apply-stays i true s w m x ts t fr o a b k f e = apply-strict i s w m x ts t o a b k f e
   apply-stays true false s w m x ts t fr o a b k f e = absurd fr
   apply-stays false false s w input x ts t fr o a b k f e = apply-strict false s w input x ts t o a b k f e
-  apply-stays false false s w output x ts t fr o a b k f e = (record { place = (false, fr, a, b, within-any (w .frames) (w .stdout) (length (s .handles)) k); functions = f; jobs = e }, tt)
-  apply-stays false false s w append x ts t fr o a b k f e = (record { place = (false, fr, a, b, within-any (w .frames) (w .stdout) (length (s .handles)) k); functions = f; jobs = e }, tt)
+  apply-stays false false s w output x ts t fr o a b k f e = (
+    record {
+      place = (
+        false,
+        fr,
+        a,
+        b,
+        within-any (w .frames) (w .stdout) (length (s .handles)) k,
+      );
+      functions = f;
+      jobs = e;
+    },
+    tt,
+  )
+  apply-stays false false s w append x ts t fr o a b k f e = (
+    record {
+      place = (
+        false,
+        fr,
+        a,
+        b,
+        within-any (w .frames) (w .stdout) (length (s .handles)) k,
+      );
+      functions = f;
+      jobs = e;
+    },
+    tt,
+  )
   apply-stays false false s w here x ts t fr o a b k f e = apply-strict false s w here x ts t o a b k f e
 
-  arms-stays : (i : Bool) (s : System) (w : Process) (x : List ℕ) (is : Arms) → Ok-arms i is → Between i (w .frames) (w .stdin) (w .stdout) → w .functions ≡ [] → w .jobs ≡ [] → Stays i s (step-arms s w x is)
+  arms-stays : (i : Bool) (s : System) (w : Process) (x : List ℕ) (is : Arms) → Ok-arms i is → Between i (w .frames) (w .stdin) (w .stdout)
+      → w .functions ≡ [] → w .jobs ≡ [] → Stays i s (step-arms s w x is)
   arms-stays i s w x no-arms h k f e = search walk
   arms-stays i s w x (arm p l is) h k f e = (record { place = (i, sees-start i (w .stdin) (k .1), tt, h .0, (h .1, h .2, k)); functions = f; jobs = e }, same-files-if i s s refl)
 
-  for-stays : (i : Bool) (s : System) (w : Process) (x : Name) (as₁ : List (List ℕ)) (l : CommandList) → Ok-list i l → Between i (w .frames) (w .stdin) (w .stdout) → w .functions ≡ [] → w .jobs ≡ [] → Stays i s (step-for s w x as₁ l)
+  for-stays : (i : Bool) (s : System) (w : Process) (x : Name) (as₁ : List (List ℕ)) (l : CommandList) → Ok-list i l
+      → Between i (w .frames) (w .stdin) (w .stdout) → w .functions ≡ [] → w .jobs ≡ [] → Stays i s (step-for s w x as₁ l)
   for-stays i s w x [] l h k f e = search walk
   for-stays i s w x (a ∷ as₁) l h k f e = search walk
 
-  expanded-stays : (i j : Bool) (s : System) (w : Process) (x : Expansion) (y : Purpose) → Sees-start j i (w .stdin) → (x .parts ≡ no-parts) → (x .words ≡ no-words) → At-purpose i j x y (w .frames) (w .stdin) (w .stdout) → w .functions ≡ [] → w .jobs ≡ [] → Stays i s (expanded s w (close-word (x .current) (x .complete)) y)
+  expanded-stays : (i j : Bool) (s : System) (w : Process) (x : Expansion) (y : Purpose) → Sees-start j i (w .stdin) → (x .parts ≡ no-parts)
+      → (x .words ≡ no-words) → At-purpose i j x y (w .frames) (w .stdin) (w .stdout) → w .functions ≡ [] → w .jobs ≡ []
+      → Stays i s (expanded s w (close-word (x .current) (x .complete)) y)
   expanded-stays i j s w x (to-assign n ss ws ts) fr p q h f e = assignments-stays i s (with-variables w _) ss ws ts (h .0) (h .1) (h .2) (h .3) (h .4) f e
-  expanded-stays true j s w x (to-invoke ts) fr p q h f e = (record { place = (true, tt, h .0, track-arguments (s .files) (x .complete) (x .current) (subst (λ ws. Track (x .complete) (x .current) no-parts ws) q (subst (λ v. Track (x .complete) (x .current) v (x .words)) p (h .1))), (h .2 .1, h .2 .2, h .2 .0, h .2 .2)); functions = f; jobs = e }, refl)
+  expanded-stays true j s w x (to-invoke ts) fr p q h f e = (
+    record {
+      place = (
+        true,
+        tt,
+        h .0,
+        track-arguments (s .files) (x .complete) (x .current) (subst (λ ws. Track (x .complete) (x .current) no-parts ws) q
+            (subst (λ v. Track (x .complete) (x .current) v (x .words)) p (h .1))),
+        (h .2 .1, h .2 .2, h .2 .0, h .2 .2),
+      );
+      functions = f;
+      jobs = e;
+    },
+    refl,
+  )
   expanded-stays false j s w x (to-invoke ts) fr p q h f e = (record { place = (false, h .2 .1, h .0, tt, (h .2 .1, h .2 .2, h .2 .0, tt)); functions = f; jobs = e }, tt)
   expanded-stays i j s w x (to-redirect m ts t) fr p q h f e = apply-stays i j s w m _ ts t fr (h .0) (h .1) (h .2) (h .3) f e
   expanded-stays i j s w x (to-loop n l) fr p q h f e = for-stays i s w n _ l (h .0) (h .1) f e
@@ -459,13 +567,30 @@ module _ (b0 b1 : ℕ) where
   at-purpose i j x z (to-select is) k a b g h = h
   at-purpose i j x z (to-match n l is) k a b g h = h
 
-  next-first : (i : Bool) (x : Expansion) (v : Word) (vs : Words) → x .parts ≡ no-parts → x .words ≡ and-word v vs → First-word i x → First-word i (record { words = vs; parts = v; current = none; complete = close-word (x .current) (x .complete); split = x .split })
-  next-first true x v vs p q h = track-next (x .complete) (x .current) v vs (subst (λ ws. Track (x .complete) (x .current) no-parts ws) q (subst (λ u. Track (x .complete) (x .current) u (x .words)) p h))
+  next-first : (i : Bool) (x : Expansion) (v : Word) (vs : Words) → x .parts ≡ no-parts → x .words ≡ and-word v vs → First-word i x
+      → First-word i (record { words = vs; parts = v; current = none; complete = close-word (x .current) (x .complete); split = x .split })
+  next-first true x v vs p q h = track-next (x .complete) (x .current) v vs (subst (λ ws. Track (x .complete) (x .current) no-parts ws) q
+      (subst (λ u. Track (x .complete) (x .current) u (x .words)) p h))
   next-first false x v vs p q h = tt
 
-  next-word-stays : (i j : Bool) (s : System) (w : Process) (x : Expansion) (vs : Words) (y : Purpose) → Sees-start j i (w .stdin) → x .parts ≡ no-parts → x .words ≡ vs → Ok-words j vs → At-purpose i j x y (w .frames) (w .stdin) (w .stdout) → w .functions ≡ [] → w .jobs ≡ [] → Stays i s (next-word s w x vs y)
+  next-word-stays : (i j : Bool) (s : System) (w : Process) (x : Expansion) (vs : Words) (y : Purpose) → Sees-start j i (w .stdin)
+      → x .parts ≡ no-parts → x .words ≡ vs → Ok-words j vs → At-purpose i j x y (w .frames) (w .stdin) (w .stdout) → w .functions ≡ [] → w .jobs ≡ []
+      → Stays i s (next-word s w x vs y)
   next-word-stays i j s w x no-words y fr p q a h f e = expanded-stays i j s w x y fr p q h f e
-  next-word-stays i j s w x (and-word v vs) y fr p q a h f e = (record { place = (j, fr, a .1, a .0, at-purpose i j x _ y (w .frames) (w .stdin) (w .stdout) (next-first i x v vs p q) h); functions = f; jobs = e }, same-files-if i s s refl)
+  next-word-stays i j s w x (and-word v vs) y fr p q a h f e = (
+    record {
+      place = (
+        j,
+        fr,
+        a .1,
+        a .0,
+        at-purpose i j x _ y (w .frames) (w .stdin) (w .stdout) (next-first i x v vs p q) h,
+      );
+      functions = f;
+      jobs = e;
+    },
+    same-files-if i s s refl,
+  )
 
   pick-both : {A : Type 0} (P : A → Type 0) (b : Bool) (x y : A) → P x → P y → P (pick b x y)
   pick-both P true x y h k = h
@@ -474,28 +599,66 @@ module _ (b0 b1 : ℕ) where
   insert-words : (P : Words → Word → Type 0) (x : Expansion) (q : Bool) (v : List ℕ) → P (x .words) (x .parts) → P ((insert-value x q v) .words) ((insert-value x q v) .parts)
   insert-words P x q v h = pick-both (λ (z : Expansion). P (z .words) (z .parts)) (x .split && not q) _ _ h h
 
-  literal-first : (i : Bool) (x : Expansion) (q : Bool) (bs : List ℕ) (r : Word) → x .parts ≡ and-part (literal q bs) r → First-word i x → First-word i (with-parts (record { words = x .words; parts = x .parts; current = some (so-far (x .current) ++ quote-bytes q bs); complete = x .complete; split = x .split }) r)
+  literal-first : (i : Bool) (x : Expansion) (q : Bool) (bs : List ℕ) (r : Word) → x .parts ≡ and-part (literal q bs) r → First-word i x
+      → First-word i (with-parts (record {
+        words = x .words;
+        parts = x .parts;
+        current = some (so-far (x .current) ++ quote-bytes q bs);
+        complete = x .complete;
+        split = x .split;
+      }) r)
   literal-first true x q bs r p h = track-literal (x .complete) (x .current) q bs r (x .words) (subst (λ v. Track (x .complete) (x .current) v (x .words)) p h)
   literal-first false x q bs r p h = tt
 
-  parameter-first : (i : Bool) (x : Expansion) (q : Bool) (n : Name) (v : List ℕ) (r : Word) → x .parts ≡ and-part (parameter q n) r → First-word i x → First-word i (insert-value (with-parts x r) q v)
+  parameter-first : (i : Bool) (x : Expansion) (q : Bool) (n : Name) (v : List ℕ) (r : Word) → x .parts ≡ and-part (parameter q n) r → First-word i x
+      → First-word i (insert-value (with-parts x r) q v)
   parameter-first true x q n v r p h = track-parameter (x .split) q v n r (x .words) (x .complete) (x .current) (subst (λ v. Track (x .complete) (x .current) v (x .words)) p h)
   parameter-first false x q n v r p h = tt
 
-  expansion-stays : (i j : Bool) (s : System) (w : Process) (x : Expansion) (v : Word) (y : Purpose) → No-substitution v → Sees-start j i (w .stdin) → x .parts ≡ v → Ok-words j (x .words) → Ok-word j v → At-purpose i j x y (w .frames) (w .stdin) (w .stdout) → w .functions ≡ [] → w .jobs ≡ [] → Stays i s (step-expansion s w x v y)
+  expansion-stays : (i j : Bool) (s : System) (w : Process) (x : Expansion) (v : Word) (y : Purpose) → No-substitution v → Sees-start j i (w .stdin)
+      → x .parts ≡ v → Ok-words j (x .words) → Ok-word j v → At-purpose i j x y (w .frames) (w .stdin) (w .stdout) → w .functions ≡ [] → w .jobs ≡ []
+      → Stays i s (step-expansion s w x v y)
   expansion-stays i j s w x no-parts y nr fr p a b h f e = next-word-stays i j s w x (x .words) y fr p refl a h f e
-  expansion-stays i j s w x (and-part (literal q bs) r) y nr fr p a b h f e = (record { place = (j, fr, a, b .1, at-purpose i j x _ y (w .frames) (w .stdin) (w .stdout) (literal-first i x q bs r p) h); functions = f; jobs = e }, same-files-if i s s refl)
+  expansion-stays i j s w x (and-part (literal q bs) r) y nr fr p a b h f e = (
+    record {
+      place = (
+        j,
+        fr,
+        a,
+        b .1,
+        at-purpose i j x _ y (w .frames) (w .stdin) (w .stdout) (literal-first i x q bs r p) h,
+      );
+      functions = f;
+      jobs = e;
+    },
+    same-files-if i s s refl,
+  )
   expansion-stays i j s w x (and-part (parameter q n) r) y nr fr p a b h f e =
-      let c = insert-words (λ vs v. Ok-words j vs × Ok-word j v) (with-parts x r) q (parameter-value w n) (a, b .1) in
-      (record { place = (j, fr, c .0, c .1, at-purpose i j x _ y (w .frames) (w .stdin) (w .stdout) (parameter-first i x q n (parameter-value w n) r p) h); functions = f; jobs = e }, same-files-if i s s refl)
+      let c = insert-words (λ vs v. Ok-words j vs × Ok-word j v) (with-parts x r) q (parameter-value w n) (a, b .1) in (
+        record {
+          place = (
+            j,
+            fr,
+            c .0,
+            c .1,
+            at-purpose i j x _ y (w .frames) (w .stdin) (w .stdout)
+                (parameter-first i x q n (parameter-value w n) r p) h,
+          );
+          functions = f;
+          jobs = e;
+        },
+        same-files-if i s s refl,
+      )
   expansion-stays i j s w x (and-part (substitution q l) r) y nr fr p a b h f e = absurd nr
 
-  redirects-stays : (i j : Bool) (s : System) (w : Process) (ts : Redirects) (t : AfterRedirects) → Sees-start j i (w .stdin) → Ok-redirects i j ts → Ok-after i t → Within i (w .frames) (w .stdout) → w .functions ≡ [] → w .jobs ≡ [] → Stays i s (step-redirects s w ts t)
+  redirects-stays : (i j : Bool) (s : System) (w : Process) (ts : Redirects) (t : AfterRedirects) → Sees-start j i (w .stdin) → Ok-redirects i j ts
+      → Ok-after i t → Within i (w .frames) (w .stdout) → w .functions ≡ [] → w .jobs ≡ [] → Stays i s (step-redirects s w ts t)
   redirects-stays i j s w no-redirects (then-invoke as₁) fr a h k f e = invoke-stays i s w as₁ h k f e
   redirects-stays i j s w no-redirects (then-command c) fr a h k f e = absurd h
   redirects-stays i j s w (redirect n v ts) t fr a h k f e = (record { place = (j, fr, tt, a .0, (a .1, a .2, h, k)); functions = f; jobs = e }, same-files-if i s s refl)
 
-  command-stays : (i : Bool) (s : System) (w : Process) (c : Command) → Ok-command i c → Between i (w .frames) (w .stdin) (w .stdout) → w .functions ≡ [] → w .jobs ≡ [] → Stays i s (step-command s w c)
+  command-stays : (i : Bool) (s : System) (w : Process) (c : Command) → Ok-command i c → Between i (w .frames) (w .stdin) (w .stdout)
+      → w .functions ≡ [] → w .jobs ≡ [] → Stays i s (step-command s w c)
   command-stays i s w (simple ss ws ts) h k f e = assignments-stays i s w ss ws ts (h .0) (h .1) (h .2) (h .3) k f e
   command-stays i s w (group l no-redirects) h k f e = search walk
   command-stays i s w (group l (redirect n v ts)) h k f e = absurd (h .1)
@@ -504,18 +667,47 @@ module _ (b0 b1 : ℕ) where
   command-stays i s w (if a b c (redirect n v ts)) h k f e = absurd (h .3)
   command-stays i s w (while a b no-redirects) h k f e = search walk
   command-stays i s w (while a b (redirect n v ts)) h k f e = absurd (h .2)
-  command-stays i s w (for x no-words l no-redirects) h k f e = (record { place = (i, sees-start i (w .stdin) (k .1), tt, tt, (h .1, k)); functions = f; jobs = e }, same-files-if i s s refl)
-  command-stays i s w (for x (and-word v ws) l no-redirects) h k f e = (record { place = (i, sees-start i (w .stdin) (k .1), h .0 .1, h .0 .0, (h .1, k)); functions = f; jobs = e }, same-files-if i s s refl)
+  command-stays i s w (for x no-words l no-redirects) h k f e = (
+    record {
+      place = (i, sees-start i (w .stdin) (k .1), tt, tt, (h .1, k));
+      functions = f;
+      jobs = e;
+    },
+    same-files-if i s s refl,
+  )
+  command-stays i s w (for x (and-word v ws) l no-redirects) h k f e = (
+    record {
+      place = (
+        i,
+        sees-start i (w .stdin) (k .1),
+        h .0 .1,
+        h .0 .0,
+        (h .1, k),
+      );
+      functions = f;
+      jobs = e;
+    },
+    same-files-if i s s refl,
+  )
   command-stays i s w (for x ws l (redirect n v ts)) h k f e = absurd (h .2)
-  command-stays i s w (case v is no-redirects) h k f e = (record { place = (i, sees-start i (w .stdin) (k .1), tt, h .0, (h .1, k)); functions = f; jobs = e }, same-files-if i s s refl)
+  command-stays i s w (case v is no-redirects) h k f e = (
+    record {
+      place = (i, sees-start i (w .stdin) (k .1), tt, h .0, (h .1, k));
+      functions = f;
+      jobs = e;
+    },
+    same-files-if i s s refl,
+  )
   command-stays i s w (case v is (redirect n u ts)) h k f e = absurd (h .2)
   command-stays i s w (function x l) h k f e = absurd h
 
-  and-or-stays : (i : Bool) (s : System) (w : Process) (a : AndOr) → Ok-and-or i a → Between i (w .frames) (w .stdin) (w .stdout) → w .functions ≡ [] → w .jobs ≡ [] → Stays i s (step-and-or s w a)
+  and-or-stays : (i : Bool) (s : System) (w : Process) (a : AndOr) → Ok-and-or i a → Between i (w .frames) (w .stdin) (w .stdout) → w .functions ≡ []
+      → w .jobs ≡ [] → Stays i s (step-and-or s w a)
   and-or-stays i s w (first n p) h k f e = search walk
   and-or-stays i s w (joined a b n p) h k f e = search walk
 
-  list-stays : (i : Bool) (s : System) (w : Process) (l : CommandList) → Ok-list i l → Between i (w .frames) (w .stdin) (w .stdout) → w .functions ≡ [] → w .jobs ≡ [] → Stays i s (step-list s w l)
+  list-stays : (i : Bool) (s : System) (w : Process) (l : CommandList) → Ok-list i l → Between i (w .frames) (w .stdin) (w .stdout)
+      → w .functions ≡ [] → w .jobs ≡ [] → Stays i s (step-list s w l)
   list-stays i s w end h k f e = search walk
   list-stays i s w (next a false l) h k f e = search walk
   list-stays i s w (next a true l) h k f e = absurd h
@@ -524,16 +716,19 @@ module _ (b0 b1 : ℕ) where
   Is-single (single c) = Unit {0}
   Is-single (piped c p) = ⊥
 
-  pipeline-stays : (i : Bool) (s : System) (w : Process) (n : Bool) (p : Pipeline) → Is-single p → Ok-pipeline i p → Between i (w .frames) (w .stdin) (w .stdout) → w .functions ≡ [] → w .jobs ≡ [] → Stays i s (step-pipeline s w n p)
+  pipeline-stays : (i : Bool) (s : System) (w : Process) (n : Bool) (p : Pipeline) → Is-single p → Ok-pipeline i p
+      → Between i (w .frames) (w .stdin) (w .stdout) → w .functions ≡ [] → w .jobs ≡ [] → Stays i s (step-pipeline s w n p)
   pipeline-stays i s w true (single c) q h k f e = search walk
   pipeline-stays i s w false (single c) q h k f e = search walk
   pipeline-stays i s w n (piped c p) q h k f e = absurd q
 
-  else-stays : (i : Bool) (s : System) (w : Process) (l : ElsePart) (k : List Frame) → Ok-else i l → Between i k (w .stdin) (w .stdout) → w .functions ≡ [] → w .jobs ≡ [] → Stays i s (step-else s w l k)
+  else-stays : (i : Bool) (s : System) (w : Process) (l : ElsePart) (k : List Frame) → Ok-else i l → Between i k (w .stdin) (w .stdout)
+      → w .functions ≡ [] → w .jobs ≡ [] → Stays i s (step-else s w l k)
   else-stays i s w no-else k h c f e = search walk
   else-stays i s w (else l) k h c f e = search walk
 
-  status-stays : (i : Bool) (s : System) (w : Process) (n : ℕ) (k : List Frame) → Between i k (w .stdin) (w .stdout) ⊎ Within i k (w .stdout) → w .functions ≡ [] → w .jobs ≡ [] → Stays i s (step-status s w n k)
+  status-stays : (i : Bool) (s : System) (w : Process) (n : ℕ) (k : List Frame) → Between i k (w .stdin) (w .stdout) ⊎ Within i k (w .stdout)
+      → w .functions ≡ [] → w .jobs ≡ [] → Stays i s (step-status s w n k)
   status-stays i s w n [] c f e = search walk
   status-stays i s w n (f-list end ∷ k) (inl c) f e = search walk
   status-stays i s w n (f-list end ∷ k) (inr c) f e = absurd c
@@ -557,7 +752,8 @@ module _ (b0 b1 : ℕ) where
   status-stays i s w n (f-arguments as₁ ∷ k) (inl c) f e = absurd (c .0)
   status-stays i s w n (f-arguments as₁ ∷ k) (inr c) f e = absurd c
 
-  unwind-stays : (i : Bool) (s : System) (w : Process) (t : Unwind) (n : ℕ) (k : List Frame) → Between i k (w .stdin) (w .stdout) ⊎ Within i k (w .stdout) → w .functions ≡ [] → w .jobs ≡ [] → Stays i s (step-unwind s w t n k)
+  unwind-stays : (i : Bool) (s : System) (w : Process) (t : Unwind) (n : ℕ) (k : List Frame) → Between i k (w .stdin) (w .stdout)
+      ⊎ Within i k (w .stdout) → w .functions ≡ [] → w .jobs ≡ [] → Stays i s (step-unwind s w t n k)
   unwind-stays i s w t n [] c f e = search walk
   unwind-stays i s w t n (f-list l ∷ k) (inl c) f e = search walk
   unwind-stays i s w t n (f-list l ∷ k) (inr c) f e = absurd c
@@ -587,7 +783,8 @@ module _ (b0 b1 : ℕ) where
   unwind-stays i s w t n (f-arguments as₁ ∷ k) (inl c) f e = absurd (c .0)
   unwind-stays i s w t n (f-arguments as₁ ∷ k) (inr c) f e = absurd c
 
-  wait-stays : (i : Bool) (s : System) (w : Process) (n : ℕ) (ps : List ℕ) → Between i (w .frames) (w .stdin) (w .stdout) ⊎ Within i (w .frames) (w .stdout) → w .functions ≡ [] → w .jobs ≡ [] → Stays? i s (step-wait s w n ps)
+  wait-stays : (i : Bool) (s : System) (w : Process) (n : ℕ) (ps : List ℕ) → Between i (w .frames) (w .stdin) (w .stdout)
+      ⊎ Within i (w .frames) (w .stdout) → w .functions ≡ [] → w .jobs ≡ [] → Stays? i s (step-wait s w n ps)
   wait-stays i s w n [] k f e = search walk
   wait-stays i s w n (p ∷ ps) k f e = opt-stays? i s (exit-status (s .exited) p) none _ tt (λ m. wait-stays i s w m ps k f e)
 
@@ -605,7 +802,8 @@ module _ (b0 b1 : ℕ) where
   Not-pipeline (at-wait ps) = Unit {0}
   Not-pipeline (at-capture d bs q x y) = ⊥
 
-  control-stays : (i : Bool) (s : System) (w : Process) (c : Control) → Not-pipeline c → Stdout-stream i s → At i c (w .frames) (w .stdin) (w .stdout) → w .functions ≡ [] → w .jobs ≡ [] → Stays? i s (step-control s w c)
+  control-stays : (i : Bool) (s : System) (w : Process) (c : Control) → Not-pipeline c → Stdout-stream i s → At i c (w .frames) (w .stdin) (w .stdout)
+      → w .functions ≡ [] → w .jobs ≡ [] → Stays? i s (step-control s w c)
   control-stays i s w (at-list l) p h a f e = list-stays i s w l (a .0) (a .1) f e
   control-stays i s w (at-and-or x) p h a f e = and-or-stays i s w x (a .0) (a .1) f e
   control-stays i s w (at-pipeline n q) p h a f e = pipeline-stays i s w n q p (a .0) (a .1) f e
@@ -648,14 +846,23 @@ module _ (b0 b1 : ℕ) where
   not-pipeline w f = not-pipeline-control (w .control) (w .frames) (w .stdin) (w .stdout) (f .place)
 
   -- a $( ) begins: its list is as calm, and it reads from where the process began to read
-  pub substitution-parts : (i : Bool) (x : Expansion) (y : Purpose) (q : Bool) (l : CommandList) (r : Word) (k : List Frame) (a b : ℕ) → x .parts ≡ and-part (substitution q l) r → Word-at i x y k a b → (i ≡ false) × (a ≡ b0) × Ok-list false l × Word-at false (with-parts x r) y k a b
+  pub substitution-parts : (i : Bool) (x : Expansion) (y : Purpose) (q : Bool) (l : CommandList) (r : Word) (k : List Frame) (a b : ℕ)
+      → x .parts ≡ and-part (substitution q l) r → Word-at i x y k a b → (i ≡ false) × (a ≡ b0) × Ok-list false l
+      × Word-at false (with-parts x r) y k a b
   substitution-parts i x y q l r k a b e h = by i (h .0) (h .1) (subst (λ v. Ok-word (h .0) v) e (h .3)) (h .2) (h .4)
     where
-      by : (i j : Bool) → Sees-start j i a → (Allowed j × Ok-list false l) × Ok-word j r → Ok-words j (x .words) → At-purpose i j x y k a b → (i ≡ false) × (a ≡ b0) × Ok-list false l × Word-at false (with-parts x r) y k a b
+      by : (i j : Bool) → Sees-start j i a → (Allowed j × Ok-list false l) × Ok-word j r → Ok-words j (x .words) → At-purpose i j x y k a b
+          → (i ≡ false) × (a ≡ b0) × Ok-list false l × Word-at false (with-parts x r) y k a b
       by i true f g ws h = absurd (g .0 .0)
       by true false f g ws h = absurd f
       by false false f g ws h = (refl, f, g .0 .1, (false, f, ws, g .1, at-purpose false false x (with-parts x r) y k a b (λ z. tt) h))
 
   -- what was captured is inserted
   pub captured-at : (x : Expansion) (y : Purpose) (q : Bool) (v : List ℕ) (k : List Frame) (a b : ℕ) → Word-at false x y k a b → Word-at false (insert-value x q v) y k a b
-  captured-at x y q v k a b h = let c = insert-words (λ vs v. Ok-words (h .0) vs × Ok-word (h .0) v) x q v (h .2, h .3) in (h .0, h .1, c .0, c .1, at-purpose false (h .0) x (insert-value x q v) y k a b (λ z. tt) (h .4))
+  captured-at x y q v k a b h = let c = insert-words (λ vs v. Ok-words (h .0) vs × Ok-word (h .0) v) x q v (h .2, h .3) in (
+    h .0,
+    h .1,
+    c .0,
+    c .1,
+    at-purpose false (h .0) x (insert-value x q v) y k a b (λ z. tt) (h .4),
+  )

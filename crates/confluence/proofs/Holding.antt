@@ -58,7 +58,9 @@ within-frames b0 b1 i os g (f-if x y ∷ k) b h e = absurd e
 within-frames b0 b1 i os g (f-condition x y ∷ k) b h e = absurd e
 within-frames b0 b1 i os g (f-body x y ∷ k) b h e = absurd e
 within-frames b0 b1 i os g (f-for x as₁ l ∷ k) b h e = absurd e
-within-frames b0 b1 i os g (f-handles x y ∷ k) b h e = subst (λ z. (handle-is os g z || (handle-is os g y || in-frames os g k)) ≡ true) (sym (e .0)) (subst (λ z. (handle-is os g b0 || (handle-is os g z || in-frames os g k)) ≡ true) (sym (e .1)) (three (handle-is os g b0) (handle-is os g b1) (in-frames os g k) h))
+within-frames b0 b1 i os g (f-handles x y ∷ k) b h e = subst (λ z. (handle-is os g z || (handle-is os g y || in-frames os g k)) ≡ true) (sym (e .0))
+    (subst (λ z. (handle-is os g b0 || (handle-is os g z || in-frames os g k)) ≡ true) (sym (e .1))
+    (three (handle-is os g b0) (handle-is os g b1) (in-frames os g k) h))
   where
     three : (a b c : Bool) → (a || b) ≡ true → (a || (b || c)) ≡ true
     three true b c h = refl
@@ -66,7 +68,8 @@ within-frames b0 b1 i os g (f-handles x y ∷ k) b h e = subst (λ z. (handle-is
     three false false c h = absurd (subst (λ z. Fixed (pick z (some (here-text [])) none)) h tt)
 within-frames b0 b1 i os g (f-arguments as₁ ∷ k) b h e = absurd e
 
-pub control-holds : (b0 b1 : ℕ) (i : Bool) (os : List Handle) (g : Handle → Bool) (c : Control) (k : List Frame) (a b : ℕ) → Either-end os g b0 b1 → At b0 b1 i c k a b → ((handle-is os g a || handle-is os g b) || in-frames os g k) ≡ true
+pub control-holds : (b0 b1 : ℕ) (i : Bool) (os : List Handle) (g : Handle → Bool) (c : Control) (k : List Frame) (a b : ℕ) → Either-end os g b0 b1
+    → At b0 b1 i c k a b → ((handle-is os g a || handle-is os g b) || in-frames os g k) ≡ true
 control-holds b0 b1 i os g c k a b h e = by c e
   where
     pl : Between b0 b1 i k a b → ((handle-is os g a || handle-is os g b) || in-frames os g k) ≡ true
@@ -102,7 +105,9 @@ control-holds b0 b1 i os g c k a b h e = by c e
     by (at-capture d bs q x y) p = absurd p
 
 -- one that holds it is enough
-pub held-by : (ws : List Process) (q : ℕ) (w : Process) (os : List Handle) (g : Handle → Bool) → find-process ws q ≡ some w → ((handle-is os g (w .stdin) || handle-is os g (w .stdout)) || (in-frames os g (w .frames) || in-control os g (w .control))) ≡ true → held os g ws ≡ true
+pub held-by : (ws : List Process) (q : ℕ) (w : Process) (os : List Handle) (g : Handle → Bool) → find-process ws q ≡ some w
+    → ((handle-is os g (w .stdin) || handle-is os g (w .stdout)) || (in-frames os g (w .frames) || in-control os g (w .control))) ≡ true
+    → held os g ws ≡ true
 held-by [] q w os g e h = absurd (no-some e)
 held-by (v ∷ ws) q w os g e h = by (eqb (v .pid) q) e (λ z. held-by ws q w os g z h)
   where
@@ -112,11 +117,16 @@ held-by (v ∷ ws) q w os g e h = by (eqb (v .pid) q) e (λ z. held-by ws q w os
     five false false c h = absurd (subst (λ z. Fixed (pick z (some (here-text [])) none)) h tt)
 
     by : (z : Bool) → pick z (some v) (find-process ws q) ≡ some w → (find-process ws q ≡ some w → held os g ws ≡ true) → held os g (v ∷ ws) ≡ true
-    by true p r = five (handle-is os g (v .stdin) || handle-is os g (v .stdout)) (in-frames os g (v .frames) || in-control os g (v .control)) (held os g ws) (subst (λ (u : Process). ((handle-is os g (u .stdin) || handle-is os g (u .stdout)) || (in-frames os g (u .frames) || in-control os g (u .control))) ≡ true) (sym (inside p)) h)
+    by true p r = five (handle-is os g (v .stdin) || handle-is os g (v .stdout)) (in-frames os g (v .frames) || in-control os g (v .control))
+        (held os g ws) (subst (λ (u : Process). ((handle-is os g (u .stdin) || handle-is os g (u .stdout)) ||
+        (in-frames os g (u .frames) || in-control os g (u .control))) ≡ true) (sym (inside p)) h)
     by false p r = or-right (handle-is os g (v .stdin) || handle-is os g (v .stdout)) _ (or-right (in-frames os g (v .frames) || in-control os g (v .control)) _ (r p))
 
-pub process-holds : (ws : List Process) (q : ℕ) (w : Process) (b0 b1 : ℕ) (i : Bool) (os : List Handle) (g : Handle → Bool) → Either-end os g b0 b1 → find-process ws q ≡ some w → Disciplined b0 b1 i w → held os g ws ≡ true
-process-holds ws q w b0 b1 i os g h e f = held-by ws q w os g e (six (handle-is os g (w .stdin) || handle-is os g (w .stdout)) (in-frames os g (w .frames)) (in-control os g (w .control)) (control-holds b0 b1 i os g (w .control) (w .frames) (w .stdin) (w .stdout) h (f .place)))
+pub process-holds : (ws : List Process) (q : ℕ) (w : Process) (b0 b1 : ℕ) (i : Bool) (os : List Handle) (g : Handle → Bool) → Either-end os g b0 b1
+    → find-process ws q ≡ some w → Disciplined b0 b1 i w → held os g ws ≡ true
+process-holds ws q w b0 b1 i os g h e f = held-by ws q w os g e (six (handle-is os g (w .stdin) || handle-is os g (w .stdout))
+    (in-frames os g (w .frames)) (in-control os g (w .control)) (control-holds b0 b1 i os g (w .control) (w .frames) (w .stdin) (w .stdout) h
+    (f .place)))
   where
     six : (a b c : Bool) → (a || b) ≡ true → (a || (b || c)) ≡ true
     six true b c h = refl

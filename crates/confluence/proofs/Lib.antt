@@ -18,3 +18,4 @@ pub mod Stack
 pub mod Substitution
 pub mod States
 pub mod Confluence
+pub mod Example

@@ -30,7 +30,8 @@ none-without : (ws : List Process) (q n : ℕ) → find-process ws n ≡ none �
 none-without [] q n h = refl
 none-without (w ∷ ws) q n h = by (eqb (w .pid) n) (eqb (w .pid) q) refl refl h (none-without ws q n)
   where
-    by : (y z : Bool) → eqb (w .pid) n ≡ y → eqb (w .pid) q ≡ z → pick y (some w) (find-process ws n) ≡ none → (find-process ws n ≡ none → find-process (without ws q) n ≡ none) → find-process (pick z ws (w ∷ without ws q)) n ≡ none
+    by : (y z : Bool) → eqb (w .pid) n ≡ y → eqb (w .pid) q ≡ z → pick y (some w) (find-process ws n) ≡ none
+        → (find-process ws n ≡ none → find-process (without ws q) n ≡ none) → find-process (pick z ws (w ∷ without ws q)) n ≡ none
     by true z e f g k = absurd (no-some (sym g))
     by false true e f g k = g
     by false false e f g k = subst (λ z. pick z (some w) (find-process (without ws q) n) ≡ none) (sym e) (k g)
@@ -47,9 +48,11 @@ none-replace : (ws : List Process) (q n : ℕ) (v : Process) → v .pid ≡ q �
 none-replace [] q n v p h = refl
 none-replace (w ∷ ws) q n v p h = by (eqb (w .pid) n) (eqb (w .pid) q) refl refl h (none-replace ws q n v p)
   where
-    by : (y z : Bool) → eqb (w .pid) n ≡ y → eqb (w .pid) q ≡ z → pick y (some w) (find-process ws n) ≡ none → (find-process ws n ≡ none → find-process (replace ws q v) n ≡ none) → find-process (pick z (v ∷ ws) (w ∷ replace ws q v)) n ≡ none
+    by : (y z : Bool) → eqb (w .pid) n ≡ y → eqb (w .pid) q ≡ z → pick y (some w) (find-process ws n) ≡ none
+        → (find-process ws n ≡ none → find-process (replace ws q v) n ≡ none) → find-process (pick z (v ∷ ws) (w ∷ replace ws q v)) n ≡ none
     by true z e f g k = absurd (no-some (sym g))
-    by false true e f g k = let r : v .pid ≡ w .pid = p ∙ grind arith in subst (λ m. pick (eqb m n) (some v) (find-process ws n) ≡ none) (sym r) (subst (λ z. pick z (some v) (find-process ws n) ≡ none) (sym e) g)
+    by false true e f g k = let r : v .pid ≡ w .pid = p ∙ grind arith in subst (λ m. pick (eqb m n) (some v) (find-process ws n) ≡ none) (sym r)
+        (subst (λ z. pick z (some v) (find-process ws n) ≡ none) (sym e) g)
     by false false e f g k = subst (λ z. pick z (some w) (find-process (replace ws q v) n) ≡ none) (sym e) (k g)
 
 pub unique-replace : (ws : List Process) (q : ℕ) (v : Process) → v .pid ≡ q → Unique ws → Unique (replace ws q v)
@@ -64,7 +67,8 @@ pub found-replace : (ws : List Process) (q : ℕ) (w v : Process) → find-proce
 found-replace [] q w v e p = absurd (no-some e)
 found-replace (u ∷ ws) q w v e p = by (eqb (u .pid) q) refl e (λ g. found-replace ws q w v g p)
   where
-    by : (z : Bool) → eqb (u .pid) q ≡ z → pick z (some u) (find-process ws q) ≡ some w → (find-process ws q ≡ some w → find-process (replace ws q v) q ≡ some v) → find-process (pick z (v ∷ ws) (u ∷ replace ws q v)) q ≡ some v
+    by : (z : Bool) → eqb (u .pid) q ≡ z → pick z (some u) (find-process ws q) ≡ some w
+        → (find-process ws q ≡ some w → find-process (replace ws q v) q ≡ some v) → find-process (pick z (v ∷ ws) (u ∷ replace ws q v)) q ≡ some v
     by true f g k = subst (λ z. pick z (some v) (find-process ws q) ≡ some v) (sym (subst (λ n. eqb n q ≡ true) (sym (p ∙ sym r)) f)) refl
       where
         r : u .pid ≡ q
@@ -79,11 +83,13 @@ pub find-high : (xs ys : List Process) (q : ℕ) → find-process xs q ≡ none 
 find-high [] ys q h = refl
 find-high (x ∷ xs) ys q h = by (eqb (x .pid) q) h (λ g. find-high xs ys q g)
   where
-    by : (z : Bool) → pick z (some x) (find-process xs q) ≡ none → (find-process xs q ≡ none → find-process (xs ++ ys) q ≡ find-process ys q) → pick z (some x) (find-process (xs ++ ys) q) ≡ find-process ys q
+    by : (z : Bool) → pick z (some x) (find-process xs q) ≡ none → (find-process xs q ≡ none → find-process (xs ++ ys) q ≡ find-process ys q)
+        → pick z (some x) (find-process (xs ++ ys) q) ≡ find-process ys q
     by true g ih = absurd (no-some (sym g))
     by false g ih = ih g
 
-pub unique-append : (xs ys : List Process) (n : ℕ) → Unique xs → Unique ys → ((q : ℕ) → n ≤ q → find-process xs q ≡ none) → ((q : ℕ) → q < n → find-process ys q ≡ none) → Unique (xs ++ ys)
+pub unique-append : (xs ys : List Process) (n : ℕ) → Unique xs → Unique ys → ((q : ℕ) → n ≤ q → find-process xs q ≡ none)
+    → ((q : ℕ) → q < n → find-process ys q ≡ none) → Unique (xs ++ ys)
 unique-append [] ys n a b f g = b
 unique-append (x ∷ xs) ys n a b f g = (find-low xs ys (x .pid) (lo (ltb (x .pid) n) refl) ∙ a .0, unique-append xs ys n (a .1) b (λ q h. tl q (eqb (x .pid) q) (f q h)) g)
   where

@@ -98,7 +98,18 @@ module _ (ρ : Bool → ℕ → ℕ → Type 0) where
 
   -- the same process with other numbers
   abbrev pub twin : Process → ℕ → Control → List Frame → ℕ → ℕ → Process
-  twin w p c k i o = record { pid = p; control = c; frames = k; stdin = i; stdout = o; variables = w .variables; functions = w .functions; arguments = w .arguments; status = w .status; jobs = w .jobs }
+  twin w p c k i o = record {
+    pid = p;
+    control = c;
+    frames = k;
+    stdin = i;
+    stdout = o;
+    variables = w .variables;
+    functions = w .functions;
+    arguments = w .arguments;
+    status = w .status;
+    jobs = w .jobs;
+  }
 
   pub record Like-process (z : Bool) (w v : Process) : Type 0 where
     pub control : Like-control z (w .control) (v .control)
@@ -113,7 +124,10 @@ module _ (ρ : Bool → ℕ → ℕ → Type 0) where
 
 -- ρ relates the numbers of handles, with the flag: after a new handle was opened; Q relates the systems, Q′ after a new
 -- handle was opened
-module _ (ρ : Bool → ℕ → ℕ → Type 0) (Q Q′ : System → System → Type 0) (qf : (t y : System) → Q t y → t .files ≡ y .files) (cf : (t y : System) (fs : List File) → Q t y → Q (with-files t fs) (with-files y fs)) (oq : (t y : System) (o : Handle) → Private o → Q t y → Q′ (open-handle t o) (open-handle y o)) (fr : (t y : System) → Q t y → ρ true (length (t .handles)) (length (y .handles))) (up : (i j : ℕ) → ρ false i j → ρ true i j) where
+module _ (ρ : Bool → ℕ → ℕ → Type 0) (Q Q′ : System → System → Type 0) (qf : (t y : System) → Q t y
+    → t .files ≡ y .files) (cf : (t y : System) (fs : List File) → Q t y → Q (with-files t fs) (with-files y fs)) (oq : (t y : System) (o : Handle)
+    → Private o → Q t y → Q′ (open-handle t o) (open-handle y o)) (fr : (t y : System) → Q t y
+    → ρ true (length (t .handles)) (length (y .handles))) (up : (i j : ℕ) → ρ false i j → ρ true i j) where
   abbrev pub Like-result : System → System → StepResult → StepResult → Type 0
   Like-result s x (continues w t) (continues v y) = Like-process ρ false w v × Q t y
   Like-result s x (continues w t) (exits m y) = ⊥
@@ -124,14 +138,62 @@ module _ (ρ : Bool → ℕ → ℕ → Type 0) (Q Q′ : System → System → 
   pick-like s x true o p o′ p′ h k = h
   pick-like s x false o p o′ p′ h k = k
 
-  opt-like : {A : Type 0} (s x : System) (m : Option A) (o o′ : StepResult) (f g : A → StepResult) → Like-result s x o o′ → ((a : A) → Like-result s x (f a) (g a)) → Like-result s x (opt m o f) (opt m o′ g)
+  opt-like : {A : Type 0} (s x : System) (m : Option A) (o o′ : StepResult) (f g : A → StepResult) → Like-result s x o o′
+      → ((a : A) → Like-result s x (f a) (g a)) → Like-result s x (opt m o f) (opt m o′ g)
   opt-like s x none o o′ f g h k = h
   opt-like s x (some a) o o′ f g h k = k a
 
-  goes-to-like : (s x t y : System) (w v : Process) (a b : Control) (j l : List Frame) → Like-control ρ false a b → Like-frames ρ false j l → ρ false (w .stdin) (v .stdin) → ρ false (w .stdout) (v .stdout) → v .variables ≡ w .variables → v .functions ≡ w .functions → v .arguments ≡ w .arguments → v .status ≡ w .status → v .jobs ≡ w .jobs → Q t y → Like-result s x (goes-to t w a j) (goes-to y v b l)
-  goes-to-like s x t y w v a b j l hc hk hi ho e1 e2 e3 e4 e5 f = (record { control = hc; frames = hk; stdin = hi; stdout = ho; variables = e1; functions = e2; arguments = e3; status = e4; jobs = e5 }, f)
+  goes-to-like : (s x t y : System) (w v : Process) (a b : Control) (j l : List Frame) → Like-control ρ false a b → Like-frames ρ false j l
+      → ρ false (w .stdin) (v .stdin) → ρ false (w .stdout) (v .stdout) → v .variables ≡ w .variables → v .functions ≡ w .functions
+      → v .arguments ≡ w .arguments → v .status ≡ w .status → v .jobs ≡ w .jobs → Q t y → Like-result s x (goes-to t w a j) (goes-to y v b l)
+  goes-to-like s x t y w v a b j l hc hk hi ho e1 e2 e3 e4 e5 f = (
+    record {
+      control = hc;
+      frames = hk;
+      stdin = hi;
+      stdout = ho;
+      variables = e1;
+      functions = e2;
+      arguments = e3;
+      status = e4;
+      jobs = e5;
+    },
+    f,
+  )
 
-  ruleset walk = (pick-like, opt-like, l-done, l-print, l-cat, l-cat-on, l-head, l-wc, l-grep, l-seq, l-yes, l-read, l-list, l-and-or, l-pipeline, l-command, l-words, l-redirects, l-builtin, l-status, l-unwind, l-wait, l-rest, l-joined, l-not, l-if, l-condition, l-body, l-for, l-handles, l-arguments)
+  ruleset walk = (
+    pick-like,
+    opt-like,
+    l-done,
+    l-print,
+    l-cat,
+    l-cat-on,
+    l-head,
+    l-wc,
+    l-grep,
+    l-seq,
+    l-yes,
+    l-read,
+    l-list,
+    l-and-or,
+    l-pipeline,
+    l-command,
+    l-words,
+    l-redirects,
+    l-builtin,
+    l-status,
+    l-unwind,
+    l-wait,
+    l-rest,
+    l-joined,
+    l-not,
+    l-if,
+    l-condition,
+    l-body,
+    l-for,
+    l-handles,
+    l-arguments,
+  )
 
   test-same : (s x : System) (as₁ : List (List ℕ)) → Q s x → test-status s as₁ ≡ test-status x as₁
   test-same s x [] f = refl
@@ -145,47 +207,87 @@ module _ (ρ : Bool → ℕ → ℕ → Type 0) (Q Q′ : System → System → 
 
   removed-like : (s x : System) (as₁ : List (List ℕ)) → Q s x → Q (remove-files s as₁) (remove-files x as₁)
   removed-like s x [] f = f
-  removed-like s x (a ∷ as₁) f = removed-like (with-files s (remove-file (s .files) a)) (with-files x (remove-file (x .files) a)) as₁ (subst (λ fs. Q (with-files s (remove-file (s .files) a)) (with-files x (remove-file fs a))) (qf s x f) (cf s x _ f))
+  removed-like s x (a ∷ as₁) f = removed-like (with-files s (remove-file (s .files) a)) (with-files x (remove-file (x .files) a)) as₁
+      (subst (λ fs. Q (with-files s (remove-file (s .files) a)) (with-files x (remove-file fs a))) (qf s x f) (cf s x _ f))
 
-  start-cat-like : (s x : System) (w : Process) (as₁ : List (List ℕ)) (p : ℕ) (c : Control) (k : List Frame) (i o : ℕ) → Q s x → Like-frames ρ false (w .frames) k → ρ false (w .stdin) i → ρ false (w .stdout) o → Like-result s x (start-cat s w as₁) (start-cat x (twin ρ w p c k i o) as₁)
+  start-cat-like : (s x : System) (w : Process) (as₁ : List (List ℕ)) (p : ℕ) (c : Control) (k : List Frame) (i o : ℕ) → Q s x
+      → Like-frames ρ false (w .frames) k → ρ false (w .stdin) i → ρ false (w .stdout) o
+      → Like-result s x (start-cat s w as₁) (start-cat x (twin ρ w p c k i o) as₁)
   start-cat-like s x w [] p c k i o f hk hi ho = search walk
   start-cat-like s x w (a ∷ as₁) p c k i o f hk hi ho = search walk
 
-  start-seq-like : (s x : System) (w : Process) (as₁ : List (List ℕ)) (p : ℕ) (c : Control) (k : List Frame) (i o : ℕ) → Q s x → Like-frames ρ false (w .frames) k → ρ false (w .stdin) i → ρ false (w .stdout) o → Like-result s x (start-seq s w as₁) (start-seq x (twin ρ w p c k i o) as₁)
+  start-seq-like : (s x : System) (w : Process) (as₁ : List (List ℕ)) (p : ℕ) (c : Control) (k : List Frame) (i o : ℕ) → Q s x
+      → Like-frames ρ false (w .frames) k → ρ false (w .stdin) i → ρ false (w .stdout) o
+      → Like-result s x (start-seq s w as₁) (start-seq x (twin ρ w p c k i o) as₁)
   start-seq-like s x w [] p c k i o f hk hi ho = search walk
   start-seq-like s x w (a ∷ []) p c k i o f hk hi ho = search walk
   start-seq-like s x w (a ∷ b ∷ []) p c k i o f hk hi ho = search walk depth 9
   start-seq-like s x w (a ∷ b ∷ e ∷ as₁) p c k i o f hk hi ho = search walk
 
-  run-builtin-like : (s x : System) (w : Process) (n : Name) (as₁ : List (List ℕ)) (p : ℕ) (c : Control) (k : List Frame) (i o : ℕ) → Q s x → Like-frames ρ false (w .frames) k → ρ false (w .stdin) i → ρ false (w .stdout) o → Like-result s x (run-builtin s w n as₁) (run-builtin x (twin ρ w p c k i o) n as₁)
-  run-builtin-like s x w n as₁ p c k i o f hk hi ho = search (pick-like, opt-like, goes-to-like, start-cat-like, start-seq-like, test-same, at-status-like, removed-like, l-builtin, l-print, l-done, l-head, l-wc, l-grep, l-yes, l-read, l-unwind, l-wait, l-status) depth 30 fits 5000
+  run-builtin-like : (s x : System) (w : Process) (n : Name) (as₁ : List (List ℕ)) (p : ℕ) (c : Control) (k : List Frame) (i o : ℕ) → Q s x
+      → Like-frames ρ false (w .frames) k → ρ false (w .stdin) i → ρ false (w .stdout) o
+      → Like-result s x (run-builtin s w n as₁) (run-builtin x (twin ρ w p c k i o) n as₁)
+  run-builtin-like s x w n as₁ p c k i o f hk hi ho = search (
+    pick-like,
+    opt-like,
+    goes-to-like,
+    start-cat-like,
+    start-seq-like,
+    test-same,
+    at-status-like,
+    removed-like,
+    l-builtin,
+    l-print,
+    l-done,
+    l-head,
+    l-wc,
+    l-grep,
+    l-yes,
+    l-read,
+    l-unwind,
+    l-wait,
+    l-status,
+  ) depth 30 fits 5000
 
-  invoke-like : (s x : System) (w : Process) (as₁ : List (List ℕ)) (p : ℕ) (c : Control) (k : List Frame) (i o : ℕ) → Q s x → Like-frames ρ false (w .frames) k → ρ false (w .stdin) i → ρ false (w .stdout) o → Like-result s x (invoke s w as₁) (invoke x (twin ρ w p c k i o) as₁)
+  invoke-like : (s x : System) (w : Process) (as₁ : List (List ℕ)) (p : ℕ) (c : Control) (k : List Frame) (i o : ℕ) → Q s x
+      → Like-frames ρ false (w .frames) k → ρ false (w .stdin) i → ρ false (w .stdout) o
+      → Like-result s x (invoke s w as₁) (invoke x (twin ρ w p c k i o) as₁)
   invoke-like s x w [] p c k i o f hk hi ho = search walk
   invoke-like s x w (a ∷ as₁) p c k i o f hk hi ho = search (walk, run-builtin-like)
 
-  assignments-like : (s x : System) (w : Process) (ss : Assignments) (ws : Words) (ts : Redirects) (p : ℕ) (c : Control) (k : List Frame) (i o : ℕ) → Q s x → Like-frames ρ false (w .frames) k → ρ false (w .stdin) i → ρ false (w .stdout) o → Like-result s x (step-assignments s w ss ws ts) (step-assignments x (twin ρ w p c k i o) ss ws ts)
+  assignments-like : (s x : System) (w : Process) (ss : Assignments) (ws : Words) (ts : Redirects) (p : ℕ) (c : Control) (k : List Frame) (i o : ℕ)
+      → Q s x → Like-frames ρ false (w .frames) k → ρ false (w .stdin) i → ρ false (w .stdout) o
+      → Like-result s x (step-assignments s w ss ws ts) (step-assignments x (twin ρ w p c k i o) ss ws ts)
   assignments-like s x w no-assignments ws ts p c k i o f hk hi ho = search walk
   assignments-like s x w (assign y v ss) ws ts p c k i o f hk hi ho = search walk
 
-  arms-like : (s x : System) (w : Process) (y : List ℕ) (is : Arms) (p : ℕ) (c : Control) (k : List Frame) (i o : ℕ) → Q s x → Like-frames ρ false (w .frames) k → ρ false (w .stdin) i → ρ false (w .stdout) o → Like-result s x (step-arms s w y is) (step-arms x (twin ρ w p c k i o) y is)
+  arms-like : (s x : System) (w : Process) (y : List ℕ) (is : Arms) (p : ℕ) (c : Control) (k : List Frame) (i o : ℕ) → Q s x
+      → Like-frames ρ false (w .frames) k → ρ false (w .stdin) i → ρ false (w .stdout) o
+      → Like-result s x (step-arms s w y is) (step-arms x (twin ρ w p c k i o) y is)
   arms-like s x w y no-arms p c k i o f hk hi ho = search walk
   arms-like s x w y (arm v l is) p c k i o f hk hi ho = search walk
 
-  for-like : (s x : System) (w : Process) (y : Name) (as₁ : List (List ℕ)) (l : CommandList) (p : ℕ) (c : Control) (k : List Frame) (i o : ℕ) → Q s x → Like-frames ρ false (w .frames) k → ρ false (w .stdin) i → ρ false (w .stdout) o → Like-result s x (step-for s w y as₁ l) (step-for x (twin ρ w p c k i o) y as₁ l)
+  for-like : (s x : System) (w : Process) (y : Name) (as₁ : List (List ℕ)) (l : CommandList) (p : ℕ) (c : Control) (k : List Frame) (i o : ℕ) → Q s x
+      → Like-frames ρ false (w .frames) k → ρ false (w .stdin) i → ρ false (w .stdout) o
+      → Like-result s x (step-for s w y as₁ l) (step-for x (twin ρ w p c k i o) y as₁ l)
   for-like s x w y [] l p c k i o f hk hi ho = search walk
   for-like s x w y (a ∷ as₁) l p c k i o f hk hi ho = search walk
 
-  list-like : (s x : System) (w : Process) (l : CommandList) (p : ℕ) (c : Control) (k : List Frame) (i o : ℕ) → Q s x → Like-frames ρ false (w .frames) k → ρ false (w .stdin) i → ρ false (w .stdout) o → Foreground l → Like-result s x (step-list s w l) (step-list x (twin ρ w p c k i o) l)
+  list-like : (s x : System) (w : Process) (l : CommandList) (p : ℕ) (c : Control) (k : List Frame) (i o : ℕ) → Q s x
+      → Like-frames ρ false (w .frames) k → ρ false (w .stdin) i → ρ false (w .stdout) o → Foreground l
+      → Like-result s x (step-list s w l) (step-list x (twin ρ w p c k i o) l)
   list-like s x w end p c k i o f hk hi ho h = search walk
   list-like s x w (next a false l) p c k i o f hk hi ho h = search walk
   list-like s x w (next a true l) p c k i o f hk hi ho h = absurd h
 
-  and-or-like : (s x : System) (w : Process) (a : AndOr) (p : ℕ) (c : Control) (k : List Frame) (i o : ℕ) → Q s x → Like-frames ρ false (w .frames) k → ρ false (w .stdin) i → ρ false (w .stdout) o → Like-result s x (step-and-or s w a) (step-and-or x (twin ρ w p c k i o) a)
+  and-or-like : (s x : System) (w : Process) (a : AndOr) (p : ℕ) (c : Control) (k : List Frame) (i o : ℕ) → Q s x → Like-frames ρ false (w .frames) k
+      → ρ false (w .stdin) i → ρ false (w .stdout) o → Like-result s x (step-and-or s w a) (step-and-or x (twin ρ w p c k i o) a)
   and-or-like s x w (first n q) p c k i o f hk hi ho = search walk
   and-or-like s x w (joined a b n q) p c k i o f hk hi ho = search walk
 
-  status-like : (s x : System) (w : Process) (n : ℕ) (j k : List Frame) (p : ℕ) (c : Control) (l : List Frame) (i o : ℕ) → Q s x → Like-frames ρ false j k → ρ false (w .stdin) i → ρ false (w .stdout) o → Like-result s x (step-status s w n j) (step-status x (twin ρ w p c l i o) n k)
+  status-like : (s x : System) (w : Process) (n : ℕ) (j k : List Frame) (p : ℕ) (c : Control) (l : List Frame) (i o : ℕ) → Q s x
+      → Like-frames ρ false j k → ρ false (w .stdin) i → ρ false (w .stdout) o → Like-result s x (step-status s w n j)
+      (step-status x (twin ρ w p c l i o) n k)
   status-like s x w n j k p c l i o f l-nil hi ho = search walk
   status-like s x w n j k p c l i o f (l-rest {l = end} h) hi ho = search walk
   status-like s x w n j k p c l i o f (l-rest {l = next a b m} h) hi ho = search walk
@@ -200,7 +302,9 @@ module _ (ρ : Bool → ℕ → ℕ → Type 0) (Q Q′ : System → System → 
   status-like s x w n j k p c l i o f (l-handles a b h) hi ho = search walk
   status-like s x w n j k p c l i o f (l-arguments h) hi ho = search walk
 
-  unwind-like : (s x : System) (w : Process) (t : Unwind) (n : ℕ) (j k : List Frame) (p : ℕ) (c : Control) (l : List Frame) (i o : ℕ) → Q s x → Like-frames ρ false j k → ρ false (w .stdin) i → ρ false (w .stdout) o → Like-result s x (step-unwind s w t n j) (step-unwind x (twin ρ w p c l i o) t n k)
+  unwind-like : (s x : System) (w : Process) (t : Unwind) (n : ℕ) (j k : List Frame) (p : ℕ) (c : Control) (l : List Frame) (i o : ℕ) → Q s x
+      → Like-frames ρ false j k → ρ false (w .stdin) i → ρ false (w .stdout) o → Like-result s x (step-unwind s w t n j)
+      (step-unwind x (twin ρ w p c l i o) t n k)
   unwind-like s x w t n j k p c l i o f l-nil hi ho = search walk
   unwind-like s x w t n j k p c l i o f (l-rest h) hi ho = search walk
   unwind-like s x w t n j k p c l i o f (l-joined h) hi ho = search walk
@@ -224,11 +328,15 @@ module _ (ρ : Bool → ℕ → ℕ → Type 0) (Q Q′ : System → System → 
   unwind-like s x w return n j k p c l i o f (l-arguments h) hi ho = search walk
   unwind-like s x w exit n j k p c l i o f (l-arguments h) hi ho = search walk
 
-  redirected-like : (s x : System) (w : Process) (ts : Redirects) (d : Command) (a b : StepResult) (p : ℕ) (c : Control) (k : List Frame) (i o : ℕ) → Q s x → Like-frames ρ false (w .frames) k → ρ false (w .stdin) i → ρ false (w .stdout) o → Like-result s x a b → Like-result s x (redirected s w ts d a) (redirected x (twin ρ w p c k i o) ts d b)
+  redirected-like : (s x : System) (w : Process) (ts : Redirects) (d : Command) (a b : StepResult) (p : ℕ) (c : Control) (k : List Frame) (i o : ℕ)
+      → Q s x → Like-frames ρ false (w .frames) k → ρ false (w .stdin) i → ρ false (w .stdout) o → Like-result s x a b
+      → Like-result s x (redirected s w ts d a) (redirected x (twin ρ w p c k i o) ts d b)
   redirected-like s x w no-redirects d a b p c k i o f hk hi ho h = h
   redirected-like s x w (redirect n v ts) d a b p c k i o f hk hi ho h = search walk
 
-  command-like : (s x : System) (w : Process) (d : Command) (p : ℕ) (c : Control) (k : List Frame) (i o : ℕ) → Q s x → Like-frames ρ false (w .frames) k → ρ false (w .stdin) i → ρ false (w .stdout) o → In-process d → Like-result s x (step-command s w d) (step-command x (twin ρ w p c k i o) d)
+  command-like : (s x : System) (w : Process) (d : Command) (p : ℕ) (c : Control) (k : List Frame) (i o : ℕ) → Q s x
+      → Like-frames ρ false (w .frames) k → ρ false (w .stdin) i → ρ false (w .stdout) o → In-process d
+      → Like-result s x (step-command s w d) (step-command x (twin ρ w p c k i o) d)
   command-like s x w (simple ss ws ts) p c k i o f hk hi ho h = assignments-like s x w ss ws ts p c k i o f hk hi ho
   command-like s x w (group l ts) p c k i o f hk hi ho h = redirected-like s x w ts _ _ _ p c k i o f hk hi ho (search walk)
   command-like s x w (if a b e ts) p c k i o f hk hi ho h = redirected-like s x w ts _ _ _ p c k i o f hk hi ho (search walk)
@@ -238,7 +346,9 @@ module _ (ρ : Bool → ℕ → ℕ → Type 0) (Q Q′ : System → System → 
   command-like s x w (subshell l ts) p c k i o f hk hi ho h = absurd h
   command-like s x w (function y l) p c k i o f hk hi ho h = absurd h
 
-  pipeline-like : (s x : System) (w : Process) (n : Bool) (d : Command) (p : ℕ) (c : Control) (k : List Frame) (i o : ℕ) → Q s x → Like-frames ρ false (w .frames) k → ρ false (w .stdin) i → ρ false (w .stdout) o → Like-result s x (step-pipeline s w n (single d)) (step-pipeline x (twin ρ w p c k i o) n (single d))
+  pipeline-like : (s x : System) (w : Process) (n : Bool) (d : Command) (p : ℕ) (c : Control) (k : List Frame) (i o : ℕ) → Q s x
+      → Like-frames ρ false (w .frames) k → ρ false (w .stdin) i → ρ false (w .stdout) o
+      → Like-result s x (step-pipeline s w n (single d)) (step-pipeline x (twin ρ w p c k i o) n (single d))
   pipeline-like s x w true d p c k i o f hk hi ho = search walk
   pipeline-like s x w false d p c k i o f hk hi ho = search walk
 
@@ -250,15 +360,22 @@ module _ (ρ : Bool → ℕ → ℕ → Type 0) (Q Q′ : System → System → 
   Not-redirect (to-select is) = Unit {0}
   Not-redirect (to-match x l is) = Unit {0}
 
-  expanded-like : (s x : System) (w : Process) (fs : List (List QuotedByte)) (y : Purpose) (p : ℕ) (c : Control) (k : List Frame) (i o : ℕ) → Q s x → Like-frames ρ false (w .frames) k → ρ false (w .stdin) i → ρ false (w .stdout) o → Not-redirect y → Like-result s x (expanded s w fs y) (expanded x (twin ρ w p c k i o) fs y)
+  expanded-like : (s x : System) (w : Process) (fs : List (List QuotedByte)) (y : Purpose) (p : ℕ) (c : Control) (k : List Frame) (i o : ℕ) → Q s x
+      → Like-frames ρ false (w .frames) k → ρ false (w .stdin) i → ρ false (w .stdout) o → Not-redirect y
+      → Like-result s x (expanded s w fs y) (expanded x (twin ρ w p c k i o) fs y)
   expanded-like s x w fs (to-assign a ss ws ts) p c k i o f hk hi ho h = assignments-like s x (with-variables w _) ss ws ts p c k i o f hk hi ho
-  expanded-like s x w fs (to-invoke ts) p c k i o f hk hi ho h = subst (λ fs₁. Like-result s x (goes-to s w (at-redirects ts (then-invoke (all-pathnames (s .files) fs))) (f-handles (w .stdin) (w .stdout) ∷ w .frames)) (goes-to x (twin ρ w p c k i o) (at-redirects ts (then-invoke (all-pathnames fs₁ fs))) (f-handles i o ∷ k))) (qf s x f) (search walk)
+  expanded-like s x w fs (to-invoke ts) p c k i o f hk hi ho h = subst (λ fs₁. Like-result s x
+      (goes-to s w (at-redirects ts (then-invoke (all-pathnames (s .files) fs))) (f-handles (w .stdin) (w .stdout) ∷ w .frames))
+      (goes-to x (twin ρ w p c k i o) (at-redirects ts (then-invoke (all-pathnames fs₁ fs))) (f-handles i o ∷ k))) (qf s x f) (search walk)
   expanded-like s x w fs (to-redirect n ts e) p c k i o f hk hi ho h = absurd h
-  expanded-like s x w fs (to-loop a l) p c k i o f hk hi ho h = subst (λ fs₁. Like-result s x (step-for s w a (all-pathnames (s .files) fs) l) (step-for x (twin ρ w p c k i o) a (all-pathnames fs₁ fs) l)) (qf s x f) (for-like s x w a (all-pathnames (s .files) fs) l p c k i o f hk hi ho)
+  expanded-like s x w fs (to-loop a l) p c k i o f hk hi ho h = subst (λ fs₁. Like-result s x (step-for s w a (all-pathnames (s .files) fs) l)
+      (step-for x (twin ρ w p c k i o) a (all-pathnames fs₁ fs) l)) (qf s x f) (for-like s x w a (all-pathnames (s .files) fs) l p c k i o f hk hi ho)
   expanded-like s x w fs (to-select is) p c k i o f hk hi ho h = arms-like s x w _ is p c k i o f hk hi ho
   expanded-like s x w fs (to-match a l is) p c k i o f hk hi ho h = search (walk, arms-like)
 
-  redirects-like : (s x : System) (w : Process) (ts : Redirects) (t : AfterRedirects) (p : ℕ) (c : Control) (k : List Frame) (i o : ℕ) → Q s x → Like-frames ρ false (w .frames) k → ρ false (w .stdin) i → ρ false (w .stdout) o → Like-result s x (step-redirects s w ts t) (step-redirects x (twin ρ w p c k i o) ts t)
+  redirects-like : (s x : System) (w : Process) (ts : Redirects) (t : AfterRedirects) (p : ℕ) (c : Control) (k : List Frame) (i o : ℕ) → Q s x
+      → Like-frames ρ false (w .frames) k → ρ false (w .stdin) i → ρ false (w .stdout) o
+      → Like-result s x (step-redirects s w ts t) (step-redirects x (twin ρ w p c k i o) ts t)
   redirects-like s x w no-redirects (then-invoke as₁) p c k i o f hk hi ho = invoke-like s x w as₁ p c k i o f hk hi ho
   redirects-like s x w no-redirects (then-command d) p c k i o f hk hi ho = search walk
   redirects-like s x w (redirect n v ts) t p c k i o f hk hi ho = search walk
@@ -299,14 +416,47 @@ module _ (ρ : Bool → ℕ → ℕ → Type 0) (Q Q′ : System → System → 
   pick-like-step true o p o′ p′ h k = h
   pick-like-step false o p o′ p′ h k = k
 
-  opt-like-step : {A : Type 0} (m : Option A) (o o′ : Option StepResult) (f g : A → Option StepResult) → Like-step o o′ → ((a : A) → Like-step (f a) (g a)) → Like-step (opt m o f) (opt m o′ g)
+  opt-like-step : {A : Type 0} (m : Option A) (o o′ : Option StepResult) (f g : A → Option StepResult) → Like-step o o′
+      → ((a : A) → Like-step (f a) (g a)) → Like-step (opt m o f) (opt m o′ g)
   opt-like-step none o o′ f g h k = h
   opt-like-step (some a) o o′ f g h k = k a
 
-  goes-to-like-step : (t y : System) (w v : Process) (a b : Control) (j l : List Frame) → Like-control ρ false a b → Like-frames ρ false j l → ρ false (w .stdin) (v .stdin) → ρ false (w .stdout) (v .stdout) → v .variables ≡ w .variables → v .functions ≡ w .functions → v .arguments ≡ w .arguments → v .status ≡ w .status → v .jobs ≡ w .jobs → Q t y → Like-step (some (goes-to t w a j)) (some (goes-to y v b l))
-  goes-to-like-step t y w v a b j l hc hk hi ho e1 e2 e3 e4 e5 f = inl (record { control = hc; frames = hk; stdin = hi; stdout = ho; variables = e1; functions = e2; arguments = e3; status = e4; jobs = e5 }, f)
+  goes-to-like-step : (t y : System) (w v : Process) (a b : Control) (j l : List Frame) → Like-control ρ false a b → Like-frames ρ false j l
+      → ρ false (w .stdin) (v .stdin) → ρ false (w .stdout) (v .stdout) → v .variables ≡ w .variables → v .functions ≡ w .functions
+      → v .arguments ≡ w .arguments → v .status ≡ w .status → v .jobs ≡ w .jobs → Q t y → Like-step (some (goes-to t w a j)) (some (goes-to y v b l))
+  goes-to-like-step t y w v a b j l hc hk hi ho e1 e2 e3 e4 e5 f = inl (
+    record {
+      control = hc;
+      frames = hk;
+      stdin = hi;
+      stdout = ho;
+      variables = e1;
+      functions = e2;
+      arguments = e3;
+      status = e4;
+      jobs = e5;
+    },
+    f,
+  )
 
-  ruleset step-rules = (pick-like-step, opt-like-step, goes-to-like-step, l-builtin, l-print, l-done, l-head, l-wc, l-grep, l-yes, l-read, l-seq, l-cat, l-cat-on, l-status, l-words)
+  ruleset step-rules = (
+    pick-like-step,
+    opt-like-step,
+    goes-to-like-step,
+    l-builtin,
+    l-print,
+    l-done,
+    l-head,
+    l-wc,
+    l-grep,
+    l-yes,
+    l-read,
+    l-seq,
+    l-cat,
+    l-cat-on,
+    l-status,
+    l-words,
+  )
 
   weaken-frames : (k j : List Frame) → Like-frames ρ false k j → Like-frames ρ true k j
   weaken-frames k j l-nil = l-nil
@@ -320,12 +470,30 @@ module _ (ρ : Bool → ℕ → ℕ → Type 0) (Q Q′ : System → System → 
   weaken-frames k j (l-handles a b h) = l-handles (up _ _ a) (up _ _ b) (weaken-frames _ _ h)
   weaken-frames k j (l-arguments h) = l-arguments (weaken-frames _ _ h)
 
-  open-like-step : (t y : System) (q : Handle) (w v : Process) (a b : Control) (j l : List Frame) → Private q → Q t y → Like-control ρ true a b → Like-frames ρ true j l → ρ true (w .stdin) (v .stdin) → ρ true (w .stdout) (v .stdout) → v .variables ≡ w .variables → v .functions ≡ w .functions → v .arguments ≡ w .arguments → v .status ≡ w .status → v .jobs ≡ w .jobs → Like-step (some (goes-to (open-handle t q) w a j)) (some (goes-to (open-handle y q) v b l))
-  open-like-step t y q w v a b j l po f hc hk hi ho e1 e2 e3 e4 e5 = inr (record { control = hc; frames = hk; stdin = hi; stdout = ho; variables = e1; functions = e2; arguments = e3; status = e4; jobs = e5 }, oq t y q po f)
+  open-like-step : (t y : System) (q : Handle) (w v : Process) (a b : Control) (j l : List Frame) → Private q → Q t y → Like-control ρ true a b
+      → Like-frames ρ true j l → ρ true (w .stdin) (v .stdin) → ρ true (w .stdout) (v .stdout) → v .variables ≡ w .variables
+      → v .functions ≡ w .functions → v .arguments ≡ w .arguments → v .status ≡ w .status → v .jobs ≡ w .jobs
+      → Like-step (some (goes-to (open-handle t q) w a j)) (some (goes-to (open-handle y q) v b l))
+  open-like-step t y q w v a b j l po f hc hk hi ho e1 e2 e3 e4 e5 = inr (
+    record {
+      control = hc;
+      frames = hk;
+      stdin = hi;
+      stdout = ho;
+      variables = e1;
+      functions = e2;
+      arguments = e3;
+      status = e4;
+      jobs = e5;
+    },
+    oq t y q po f,
+  )
 
   ruleset open-rules = (step-rules, open-like-step, weaken-frames)
 
-  read-like : (s x : System) (d e : ℕ) (f g : System → ℕ → Option StepResult) (z z′ : Option StepResult) → Like-read s x (read-byte s d) (read-byte x e) → ((t y : System) (b : ℕ) → Q t y → Like-step (f t b) (g y b)) → (Q s x → Like-step z z′) → Like-step (read-or s d f z) (read-or x e g z′)
+  read-like : (s x : System) (d e : ℕ) (f g : System → ℕ → Option StepResult) (z z′ : Option StepResult)
+      → Like-read s x (read-byte s d) (read-byte x e) → ((t y : System) (b : ℕ) → Q t y → Like-step (f t b) (g y b)) → (Q s x → Like-step z z′)
+      → Like-step (read-or s d f z) (read-or x e g z′)
   read-like s x d e f g z z′ h k l = by (read-byte s d) (read-byte x e) h refl refl
     where
       by : (a b : ReadByte) → Like-read s x a b → read-byte s d ≡ a → read-byte x e ≡ b → Like-step (read-or s d f z) (read-or x e g z′)
@@ -339,10 +507,14 @@ module _ (ρ : Bool → ℕ → ℕ → Type 0) (Q Q′ : System → System → 
       by must-wait at-end h p q = absurd h
       by must-wait must-wait h p q = rw (p, q) tt
 
-  print-like : (s x : System) (w : Process) (b : ℕ) (bs : List ℕ) (u v : Builtin) (p : ℕ) (c : Control) (k : List Frame) (i o : ℕ) → Like-frames ρ false (w .frames) k → ρ false (w .stdin) i → ρ false (w .stdout) o → Like-builtin ρ false u v → Like-write s x (write-byte s (w .stdout) b) (write-byte x o b) → Like-step (print-byte s w (b ∷ bs) u) (print-byte x (twin ρ w p c k i o) (b ∷ bs) v)
+  print-like : (s x : System) (w : Process) (b : ℕ) (bs : List ℕ) (u v : Builtin) (p : ℕ) (c : Control) (k : List Frame) (i o : ℕ)
+      → Like-frames ρ false (w .frames) k → ρ false (w .stdin) i → ρ false (w .stdout) o → Like-builtin ρ false u v
+      → Like-write s x (write-byte s (w .stdout) b) (write-byte x o b) → Like-step (print-byte s w (b ∷ bs) u)
+      (print-byte x (twin ρ w p c k i o) (b ∷ bs) v)
   print-like s x w b bs u v p c k i o hk hi ho l h = by (write-byte s (w .stdout) b) (write-byte x o b) h refl refl
     where
-      by : (g j : WriteByte) → Like-write s x g j → write-byte s (w .stdout) b ≡ g → write-byte x o b ≡ j → Like-step (print-byte s w (b ∷ bs) u) (print-byte x (twin ρ w p c k i o) (b ∷ bs) v)
+      by : (g j : WriteByte) → Like-write s x g j → write-byte s (w .stdout) b ≡ g → write-byte x o b ≡ j
+          → Like-step (print-byte s w (b ∷ bs) u) (print-byte x (twin ρ w p c k i o) (b ∷ bs) v)
       by (wrote t) (wrote y) h q r = rw (q, r) (search step-rules)
       by (wrote t) pipe-full h q r = absurd h
       by (wrote t) no-reader h q r = absurd h
@@ -353,11 +525,17 @@ module _ (ρ : Bool → ℕ → ℕ → Type 0) (Q Q′ : System → System → 
       by no-reader pipe-full h q r = absurd h
       by no-reader no-reader h q r = rw (q, r) (refl, h)
 
-  cat-next-like : (s x : System) (w : Process) (xs : List Name) (p : ℕ) (c : Control) (k : List Frame) (i o : ℕ) → Q s x → Like-frames ρ false (w .frames) k → ρ false (w .stdin) i → ρ false (w .stdout) o → Like-step (cat-next s w xs) (cat-next x (twin ρ w p c k i o) xs)
+  cat-next-like : (s x : System) (w : Process) (xs : List Name) (p : ℕ) (c : Control) (k : List Frame) (i o : ℕ) → Q s x
+      → Like-frames ρ false (w .frames) k → ρ false (w .stdin) i → ρ false (w .stdout) o
+      → Like-step (cat-next s w xs) (cat-next x (twin ρ w p c k i o) xs)
   cat-next-like s x w [] p c k i o f hk hi ho = search step-rules
-  cat-next-like s x w (a ∷ xs) p c k i o f hk hi ho = subst (λ fs₁. Like-step (cat-next s w (a ∷ xs)) (opt (find-file fs₁ a) (builtin-at x (twin ρ w p c k i o) (b-done 1)) (λ b. builtin-at (open-handle x (file-read a 0)) (twin ρ w p c k i o) (b-cat xs (some (length (x .handles))))))) (qf s x f) (search (open-rules, up, fr) depth 7)
+  cat-next-like s x w (a ∷ xs) p c k i o f hk hi ho = subst (λ fs₁. Like-step (cat-next s w (a ∷ xs))
+      (opt (find-file fs₁ a) (builtin-at x (twin ρ w p c k i o) (b-done 1)) (λ b. builtin-at (open-handle x (file-read a 0)) (twin ρ w p c k i o)
+      (b-cat xs (some (length (x .handles))))))) (qf s x f) (search (open-rules, up, fr) depth 7)
 
-  grep-last-like : (s x : System) (w : Process) (q l : List ℕ) (b : Bool) (p : ℕ) (c : Control) (k : List Frame) (i o : ℕ) → Q s x → Like-frames ρ false (w .frames) k → ρ false (w .stdin) i → ρ false (w .stdout) o → Like-step (grep-last s w q l b) (grep-last x (twin ρ w p c k i o) q l b)
+  grep-last-like : (s x : System) (w : Process) (q l : List ℕ) (b : Bool) (p : ℕ) (c : Control) (k : List Frame) (i o : ℕ) → Q s x
+      → Like-frames ρ false (w .frames) k → ρ false (w .stdin) i → ρ false (w .stdout) o
+      → Like-step (grep-last s w q l b) (grep-last x (twin ρ w p c k i o) q l b)
   grep-last-like s x w q [] b p c k i o f hk hi ho = search step-rules
   grep-last-like s x w q (a ∷ l) b p c k i o f hk hi ho = search step-rules depth 7
 
@@ -375,7 +553,9 @@ module _ (ρ : Bool → ℕ → ℕ → Type 0) (Q Q′ : System → System → 
   Io-builtin s x w i o u v l-yes = Q s x
   Io-builtin s x w i o u v l-read = Like-read s x (read-byte s (w .stdin)) (read-byte x i)
 
-  builtin-like : (s x : System) (w : Process) (u v : Builtin) (p : ℕ) (c : Control) (k : List Frame) (i o : ℕ) → Like-frames ρ false (w .frames) k → ρ false (w .stdin) i → ρ false (w .stdout) o → (l : Like-builtin ρ false u v) → Io-builtin s x w i o u v l → Like-step (step-builtin s w u) (step-builtin x (twin ρ w p c k i o) v)
+  builtin-like : (s x : System) (w : Process) (u v : Builtin) (p : ℕ) (c : Control) (k : List Frame) (i o : ℕ) → Like-frames ρ false (w .frames) k
+      → ρ false (w .stdin) i → ρ false (w .stdout) o → (l : Like-builtin ρ false u v) → Io-builtin s x w i o u v l
+      → Like-step (step-builtin s w u) (step-builtin x (twin ρ w p c k i o) v)
   builtin-like s x w u v p c k i o hk hi ho l-done h = search step-rules
   builtin-like s x w u v p c k i o hk hi ho (l-print {bs = []} l) h = search step-rules
   builtin-like s x w u v p c k i o hk hi ho (l-print {bs = b ∷ bs} l) h = print-like s x w b bs _ _ p c k i o hk hi ho l h
@@ -384,7 +564,8 @@ module _ (ρ : Bool → ℕ → ℕ → Type 0) (Q Q′ : System → System → 
   builtin-like s x w u v p c k i o hk hi ho (l-head {n = zero}) h = search step-rules
   builtin-like s x w u v p c k i o hk hi ho (l-head {n = suc n}) h = read-like s x _ _ _ _ _ _ h (search step-rules depth 8) (search step-rules)
   builtin-like s x w u v p c k i o hk hi ho l-wc h = read-like s x _ _ _ _ _ _ h (search step-rules depth 8) (search step-rules depth 8)
-  builtin-like s x w u v p c k i o hk hi ho (l-grep {p = q} {l = l} {b = b}) h = read-like s x _ _ _ _ _ _ h (search step-rules depth 8) (λ f. grep-last-like s x w q l b p c k i o f hk hi ho)
+  builtin-like s x w u v p c k i o hk hi ho (l-grep {p = q} {l = l} {b = b}) h = read-like s x _ _ _ _ _ _ h (search step-rules depth 8)
+      (λ f. grep-last-like s x w q l b p c k i o f hk hi ho)
   builtin-like s x w u v p c k i o hk hi ho l-seq h = search step-rules depth 8
   builtin-like s x w u v p c k i o hk hi ho l-yes h = search step-rules depth 8
   builtin-like s x w u v p c k i o hk hi ho l-read h = read-like s x _ _ _ _ _ _ h (search step-rules depth 8) (search step-rules depth 8)
@@ -399,25 +580,46 @@ module _ (ρ : Bool → ℕ → ℕ → Type 0) (Q Q′ : System → System → 
   opt-some none o g = refl
   opt-some (some a) o g = refl
 
-  apply-like : (s x : System) (w : Process) (n : RedirectKind) (a : List ℕ) (ts : Redirects) (t : AfterRedirects) (p : ℕ) (c : Control) (k : List Frame) (i o : ℕ) → Q s x → Like-frames ρ false (w .frames) k → ρ false (w .stdin) i → ρ false (w .stdout) o → Like-step (some (apply-redirect s w n a ts t)) (some (apply-redirect x (twin ρ w p c k i o) n a ts t))
-  apply-like s x w input a ts t p c k i o f hk hi ho = subst (λ fs₁. Like-step (some (apply-redirect s w input a ts t)) (some (opt (find-file fs₁ a) (completes x (twin ρ w p c k i o) 1) (λ b. goes-to (open-handle x (file-read a 0)) (with-io (twin ρ w p c k i o) (length (x .handles)) o) (at-redirects ts t) k)))) (qf s x f) (simp opt-some (search (open-rules, l-redirects, up, fr) depth 9 fits 3000))
-  apply-like s x w output a ts t p c k i o f hk hi ho = subst (λ fs₁. Like-step (some (apply-redirect s w output a ts t)) (some (goes-to (open-handle (with-files x (set-file fs₁ a [])) (file-append a)) (with-io (twin ρ w p c k i o) i (length (x .handles))) (at-redirects ts t) k))) (qf s x f) (search (open-rules, l-redirects, up, fr, cf) depth 9 fits 3000)
-  apply-like s x w append a ts t p c k i o f hk hi ho = subst (λ fs₁. Like-step (some (apply-redirect s w append a ts t)) (some (goes-to (open-handle (with-files x (set-file fs₁ a (opt (find-file fs₁ a) [] (λ b. b)))) (file-append a)) (with-io (twin ρ w p c k i o) i (length (x .handles))) (at-redirects ts t) k))) (qf s x f) (search (open-rules, l-redirects, up, fr, cf) depth 9 fits 3000)
+  apply-like : (s x : System) (w : Process) (n : RedirectKind) (a : List ℕ) (ts : Redirects) (t : AfterRedirects) (p : ℕ) (c : Control)
+      (k : List Frame) (i o : ℕ) → Q s x → Like-frames ρ false (w .frames) k → ρ false (w .stdin) i → ρ false (w .stdout) o
+      → Like-step (some (apply-redirect s w n a ts t)) (some (apply-redirect x (twin ρ w p c k i o) n a ts t))
+  apply-like s x w input a ts t p c k i o f hk hi ho = subst (λ fs₁. Like-step (some (apply-redirect s w input a ts t))
+      (some (opt (find-file fs₁ a) (completes x (twin ρ w p c k i o) 1) (λ b. goes-to (open-handle x (file-read a 0))
+      (with-io (twin ρ w p c k i o) (length (x .handles)) o) (at-redirects ts t) k)))) (qf s x f)
+      (simp opt-some (search (open-rules, l-redirects, up, fr) depth 9 fits 3000))
+  apply-like s x w output a ts t p c k i o f hk hi ho = subst (λ fs₁. Like-step (some (apply-redirect s w output a ts t))
+      (some (goes-to (open-handle (with-files x (set-file fs₁ a [])) (file-append a)) (with-io (twin ρ w p c k i o) i (length (x .handles)))
+      (at-redirects ts t) k))) (qf s x f) (search (open-rules, l-redirects, up, fr, cf) depth 9 fits 3000)
+  apply-like s x w append a ts t p c k i o f hk hi ho = subst (λ fs₁. Like-step (some (apply-redirect s w append a ts t))
+      (some (goes-to (open-handle (with-files x (set-file fs₁ a (opt (find-file fs₁ a) [] (λ b. b)))) (file-append a))
+      (with-io (twin ρ w p c k i o) i (length (x .handles))) (at-redirects ts t) k))) (qf s x f)
+      (search (open-rules, l-redirects, up, fr, cf) depth 9 fits 3000)
   apply-like s x w here a ts t p c k i o f hk hi ho = search (open-rules, l-redirects, up, fr) depth 9 fits 3000
 
-  expanded-step : (s x : System) (w : Process) (fs : List (List QuotedByte)) (y : Purpose) (p : ℕ) (c : Control) (k : List Frame) (i o : ℕ) → Q s x → Like-frames ρ false (w .frames) k → ρ false (w .stdin) i → ρ false (w .stdout) o → Like-step (some (expanded s w fs y)) (some (expanded x (twin ρ w p c k i o) fs y))
-  expanded-step s x w fs (to-assign a ss ws ts) p c k i o f hk hi ho = of-result s x (expanded s w fs (to-assign a ss ws ts)) (expanded x (twin ρ w p c k i o) fs (to-assign a ss ws ts)) (expanded-like s x w fs (to-assign a ss ws ts) p c k i o f hk hi ho tt)
-  expanded-step s x w fs (to-invoke ts) p c k i o f hk hi ho = of-result s x (expanded s w fs (to-invoke ts)) (expanded x (twin ρ w p c k i o) fs (to-invoke ts)) (expanded-like s x w fs (to-invoke ts) p c k i o f hk hi ho tt)
+  expanded-step : (s x : System) (w : Process) (fs : List (List QuotedByte)) (y : Purpose) (p : ℕ) (c : Control) (k : List Frame) (i o : ℕ) → Q s x
+      → Like-frames ρ false (w .frames) k → ρ false (w .stdin) i → ρ false (w .stdout) o
+      → Like-step (some (expanded s w fs y)) (some (expanded x (twin ρ w p c k i o) fs y))
+  expanded-step s x w fs (to-assign a ss ws ts) p c k i o f hk hi ho = of-result s x (expanded s w fs (to-assign a ss ws ts))
+      (expanded x (twin ρ w p c k i o) fs (to-assign a ss ws ts)) (expanded-like s x w fs (to-assign a ss ws ts) p c k i o f hk hi ho tt)
+  expanded-step s x w fs (to-invoke ts) p c k i o f hk hi ho = of-result s x (expanded s w fs (to-invoke ts))
+      (expanded x (twin ρ w p c k i o) fs (to-invoke ts)) (expanded-like s x w fs (to-invoke ts) p c k i o f hk hi ho tt)
   expanded-step s x w fs (to-redirect m ts e) p c k i o f hk hi ho = apply-like s x w m (first-bytes fs) ts e p c k i o f hk hi ho
-  expanded-step s x w fs (to-loop a l) p c k i o f hk hi ho = of-result s x (expanded s w fs (to-loop a l)) (expanded x (twin ρ w p c k i o) fs (to-loop a l)) (expanded-like s x w fs (to-loop a l) p c k i o f hk hi ho tt)
-  expanded-step s x w fs (to-select is) p c k i o f hk hi ho = of-result s x (expanded s w fs (to-select is)) (expanded x (twin ρ w p c k i o) fs (to-select is)) (expanded-like s x w fs (to-select is) p c k i o f hk hi ho tt)
-  expanded-step s x w fs (to-match a l is) p c k i o f hk hi ho = of-result s x (expanded s w fs (to-match a l is)) (expanded x (twin ρ w p c k i o) fs (to-match a l is)) (expanded-like s x w fs (to-match a l is) p c k i o f hk hi ho tt)
+  expanded-step s x w fs (to-loop a l) p c k i o f hk hi ho = of-result s x (expanded s w fs (to-loop a l))
+      (expanded x (twin ρ w p c k i o) fs (to-loop a l)) (expanded-like s x w fs (to-loop a l) p c k i o f hk hi ho tt)
+  expanded-step s x w fs (to-select is) p c k i o f hk hi ho = of-result s x (expanded s w fs (to-select is))
+      (expanded x (twin ρ w p c k i o) fs (to-select is)) (expanded-like s x w fs (to-select is) p c k i o f hk hi ho tt)
+  expanded-step s x w fs (to-match a l is) p c k i o f hk hi ho = of-result s x (expanded s w fs (to-match a l is))
+      (expanded x (twin ρ w p c k i o) fs (to-match a l is)) (expanded-like s x w fs (to-match a l is) p c k i o f hk hi ho tt)
 
-  next-word-step : (s x : System) (w : Process) (a : Expansion) (vs : Words) (y : Purpose) (p : ℕ) (c : Control) (k : List Frame) (i o : ℕ) → Q s x → Like-frames ρ false (w .frames) k → ρ false (w .stdin) i → ρ false (w .stdout) o → Like-step (some (next-word s w a vs y)) (some (next-word x (twin ρ w p c k i o) a vs y))
+  next-word-step : (s x : System) (w : Process) (a : Expansion) (vs : Words) (y : Purpose) (p : ℕ) (c : Control) (k : List Frame) (i o : ℕ) → Q s x
+      → Like-frames ρ false (w .frames) k → ρ false (w .stdin) i → ρ false (w .stdout) o
+      → Like-step (some (next-word s w a vs y)) (some (next-word x (twin ρ w p c k i o) a vs y))
   next-word-step s x w a no-words y p c k i o f hk hi ho = expanded-step s x w (close-word (a .current) (a .complete)) y p c k i o f hk hi ho
   next-word-step s x w a (and-word v vs) y p c k i o f hk hi ho = search (step-rules, l-words)
 
-  expansion-step : (s x : System) (w : Process) (a : Expansion) (v : Word) (y : Purpose) (p : ℕ) (c : Control) (k : List Frame) (i o : ℕ) → Q s x → Like-frames ρ false (w .frames) k → ρ false (w .stdin) i → ρ false (w .stdout) o → No-substitution v → Like-step (some (step-expansion s w a v y)) (some (step-expansion x (twin ρ w p c k i o) a v y))
+  expansion-step : (s x : System) (w : Process) (a : Expansion) (v : Word) (y : Purpose) (p : ℕ) (c : Control) (k : List Frame) (i o : ℕ) → Q s x
+      → Like-frames ρ false (w .frames) k → ρ false (w .stdin) i → ρ false (w .stdout) o → No-substitution v
+      → Like-step (some (step-expansion s w a v y)) (some (step-expansion x (twin ρ w p c k i o) a v y))
   expansion-step s x w a no-parts y p c k i o f hk hi ho g = next-word-step s x w a (a .words) y p c k i o f hk hi ho
   expansion-step s x w a (and-part (literal q bs) r) y p c k i o f hk hi ho g = search step-rules
   expansion-step s x w a (and-part (parameter q m) r) y p c k i o f hk hi ho g = search step-rules
@@ -437,17 +639,25 @@ module _ (ρ : Bool → ℕ → ℕ → Type 0) (Q Q′ : System → System → 
   Io-control s x w i o d e l-wait = Q s x
   Io-control s x w i o d e (l-capture {d = a} {e = b} h) = Like-read s x (read-byte s a) (read-byte x b)
 
-  pub step-like : (s x : System) (w : Process) (d e : Control) (p : ℕ) (c : Control) (k : List Frame) (i o : ℕ) → Like-frames ρ false (w .frames) k → ρ false (w .stdin) i → ρ false (w .stdout) o → (l : Like-control ρ false d e) → Sequential d → Io-control s x w i o d e l → Like-step (step-control s w d) (step-control x (twin ρ w p c k i o) e)
+  pub step-like : (s x : System) (w : Process) (d e : Control) (p : ℕ) (c : Control) (k : List Frame) (i o : ℕ) → Like-frames ρ false (w .frames) k
+      → ρ false (w .stdin) i → ρ false (w .stdout) o → (l : Like-control ρ false d e) → Sequential d → Io-control s x w i o d e l
+      → Like-step (step-control s w d) (step-control x (twin ρ w p c k i o) e)
   step-like s x w d e p c k i o hk hi ho (l-list {l = m}) q h = of-result s x (step-list s w m) (step-list x (twin ρ w p c k i o) m) (list-like s x w m p c k i o h hk hi ho q)
-  step-like s x w d e p c k i o hk hi ho (l-and-or {a = a}) q h = of-result s x (step-and-or s w a) (step-and-or x (twin ρ w p c k i o) a) (and-or-like s x w a p c k i o h hk hi ho)
-  step-like s x w d e p c k i o hk hi ho (l-pipeline {n = n} {p = single m}) q h = of-result s x (step-pipeline s w n (single m)) (step-pipeline x (twin ρ w p c k i o) n (single m)) (pipeline-like s x w n m p c k i o h hk hi ho)
+  step-like s x w d e p c k i o hk hi ho (l-and-or {a = a}) q h = of-result s x (step-and-or s w a) (step-and-or x (twin ρ w p c k i o) a)
+      (and-or-like s x w a p c k i o h hk hi ho)
+  step-like s x w d e p c k i o hk hi ho (l-pipeline {n = n} {p = single m}) q h = of-result s x (step-pipeline s w n (single m))
+      (step-pipeline x (twin ρ w p c k i o) n (single m)) (pipeline-like s x w n m p c k i o h hk hi ho)
   step-like s x w d e p c k i o hk hi ho (l-pipeline {n = n} {p = piped m r}) q h = absurd q
-  step-like s x w d e p c k i o hk hi ho (l-command {c = m}) q h = of-result s x (step-command s w m) (step-command x (twin ρ w p c k i o) m) (command-like s x w m p c k i o h hk hi ho q)
+  step-like s x w d e p c k i o hk hi ho (l-command {c = m}) q h = of-result s x (step-command s w m) (step-command x (twin ρ w p c k i o) m)
+      (command-like s x w m p c k i o h hk hi ho q)
   step-like s x w d e p c k i o hk hi ho (l-words {x = a} {y = y}) q h = expansion-step s x w a (a .parts) y p c k i o h hk hi ho q
-  step-like s x w d e p c k i o hk hi ho (l-redirects {ts = ts} {t = t}) q h = of-result s x (step-redirects s w ts t) (step-redirects x (twin ρ w p c k i o) ts t) (redirects-like s x w ts t p c k i o h hk hi ho)
+  step-like s x w d e p c k i o hk hi ho (l-redirects {ts = ts} {t = t}) q h = of-result s x (step-redirects s w ts t)
+      (step-redirects x (twin ρ w p c k i o) ts t) (redirects-like s x w ts t p c k i o h hk hi ho)
   step-like s x w d e p c k i o hk hi ho (l-builtin {u = u} {v = v} l) q h = builtin-like s x w u v p c k i o hk hi ho l h
-  step-like s x w d e p c k i o hk hi ho (l-status {n = n}) q h = of-result s x (step-status s (with-status w n) n (w .frames)) (step-status x (with-status (twin ρ w p c k i o) n) n k) (status-like s x (with-status w n) n (w .frames) k p c k i o h hk hi ho)
-  step-like s x w d e p c k i o hk hi ho (l-unwind {t = t} {n = n}) q h = of-result s x (step-unwind s w t n (w .frames)) (step-unwind x (twin ρ w p c k i o) t n k) (unwind-like s x w t n (w .frames) k p c k i o h hk hi ho)
+  step-like s x w d e p c k i o hk hi ho (l-status {n = n}) q h = of-result s x (step-status s (with-status w n) n (w .frames))
+      (step-status x (with-status (twin ρ w p c k i o) n) n k) (status-like s x (with-status w n) n (w .frames) k p c k i o h hk hi ho)
+  step-like s x w d e p c k i o hk hi ho (l-unwind {t = t} {n = n}) q h = of-result s x (step-unwind s w t n (w .frames))
+      (step-unwind x (twin ρ w p c k i o) t n k) (unwind-like s x w t n (w .frames) k p c k i o h hk hi ho)
   step-like s x w d e p c k i o hk hi ho (l-wait {ps = []}) q h = search step-rules
   step-like s x w d e p c k i o hk hi ho (l-wait {ps = r ∷ ps}) q h = absurd q
   step-like s x w d e p c k i o hk hi ho (l-capture g) q h = read-like s x _ _ _ _ _ _ h (search (step-rules, l-capture)) (search step-rules)

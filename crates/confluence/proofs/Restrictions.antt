@@ -148,15 +148,24 @@ mutual
 
   ok-redirects : (i j : Bool) (ts : Redirects) → redirects-stage ts ≤ 4 → calm-redirects true j ts ≡ true → (i ≡ true → reads-only ts ≡ true) → Ok-redirects i j ts
   ok-redirects i j no-redirects h e g = tt
-  ok-redirects true j (redirect k w ts) h e g = let d = both (reads k) (reads-only ts) (g refl) in let b = both (calm-word true j w) _ e in (ok-word j w (omega arith) (b .0), d .0, ok-redirects true (j || reads k) ts (omega arith) (b .1) (λ z. d .1))
-  ok-redirects false j (redirect k w ts) h e g = let b = both (calm-word true j w) _ e in (ok-word j w (omega arith) (b .0), tt, ok-redirects false (j || reads k) ts (omega arith) (b .1) (λ z. false-true z))
+  ok-redirects true j (redirect k w ts) h e g = let d = both (reads k) (reads-only ts) (g refl) in let b = both (calm-word true j w) _ e in
+      (ok-word j w (omega arith) (b .0), d .0, ok-redirects true (j || reads k) ts (omega arith) (b .1) (λ z. d .1))
+  ok-redirects false j (redirect k w ts) h e g = let b = both (calm-word true j w) _ e in (
+    ok-word j w (omega arith) (b .0),
+    tt,
+    ok-redirects false (j || reads k) ts (omega arith) (b .1) (λ z. false-true z),
+  )
 
   ok-command : (i : Bool) (c : Command) → command-stage c ≤ 4 → calm-command true i c ≡ true → Ok-command i c
   ok-command i (simple ss ws ts) h e =
       let a = both (calm-assignments true i ss && calm-words true i ws) _ e in
       let z = both (calm-assignments true i ss) _ (a .0) in
-      let b = both (calm-redirects true i ts) _ (a .1) in
-      (ok-assignments i ss (omega arith) (z .0), ok-words i ws (omega arith) (z .1), ok-redirects i i ts (omega arith) (b .0) (λ z. both (reads-only ts) (harmless ws) (inside-pipeline i _ (b .1) z) .0), ok-first i ws (λ z. both (reads-only ts) (harmless ws) (inside-pipeline i _ (b .1) z) .1))
+      let b = both (calm-redirects true i ts) _ (a .1) in (
+        ok-assignments i ss (omega arith) (z .0),
+        ok-words i ws (omega arith) (z .1),
+        ok-redirects i i ts (omega arith) (b .0) (λ z. both (reads-only ts) (harmless ws) (inside-pipeline i _ (b .1) z) .0),
+        ok-first i ws (λ z. both (reads-only ts) (harmless ws) (inside-pipeline i _ (b .1) z) .1),
+      )
   ok-command i (group l ts) h e = let a = both (calm-list true i l) _ e in (ok-list i l (omega arith) (a .0), no-redirects-of ts (both (calm-redirects true i ts) _ (a .1) .1))
   ok-command i (subshell l ts) h e = absurd (omega arith)
   ok-command i (if x y z ts) h e =

@@ -42,8 +42,30 @@ not-both host-paper h k = h
 not-both (here-text bs) h k = h
 
 -- a new member simulates its local process
-pub member-simulates : (i o : Handle) (b0 b1 q : ℕ) (t : System) (w : Process) (y : Local) (c : Command) → Input-handle i → Output-handle o → nth (t .handles) b0 ≡ some i → nth (t .handles) b1 ≡ some o → t .files ≡ y .system .files → y .process .variables ≡ w .variables → y .process .functions ≡ w .functions → y .process .arguments ≡ w .arguments → y .process .status ≡ w .status → Simulates i o (b0 ∷ b1 ∷ []) t (member w c q b0 b1) (member-start y c)
-member-simulates i o b0 b1 q t w y c ki ko e f g h1 h2 h3 h4 = record { like = record { control = l-command; frames = l-nil; stdin = refl; stdout = refl; variables = h1; functions = h2; arguments = h3; status = h4; jobs = refl }; agrees = record { lengths = refl; within = λ a n r. wi a n (two-handles b0 b1 a n r); once = λ a b n r s. on a b n (two-handles b0 b1 a n r) (two-handles b0 b1 b n s); alike = λ a n r. al a n (two-handles b0 b1 a n r); files = g } }
+pub member-simulates : (i o : Handle) (b0 b1 q : ℕ) (t : System) (w : Process) (y : Local) (c : Command) → Input-handle i → Output-handle o
+    → nth (t .handles) b0 ≡ some i → nth (t .handles) b1 ≡ some o → t .files ≡ y .system .files → y .process .variables ≡ w .variables
+    → y .process .functions ≡ w .functions → y .process .arguments ≡ w .arguments → y .process .status ≡ w .status
+    → Simulates i o (b0 ∷ b1 ∷ []) t (member w c q b0 b1) (member-start y c)
+member-simulates i o b0 b1 q t w y c ki ko e f g h1 h2 h3 h4 = record {
+  like = record {
+    control = l-command;
+    frames = l-nil;
+    stdin = refl;
+    stdout = refl;
+    variables = h1;
+    functions = h2;
+    arguments = h3;
+    status = h4;
+    jobs = refl;
+  };
+  agrees = record {
+    lengths = refl;
+    within = λ a n r. wi a n (two-handles b0 b1 a n r);
+    once = λ a b n r s. on a b n (two-handles b0 b1 a n r) (two-handles b0 b1 b n s);
+    alike = λ a n r. al a n (two-handles b0 b1 a n r);
+    files = g;
+  };
+}
   where
     wi : (a n : ℕ) → ((a ≡ 0) × (n ≡ b0)) ⊎ ((a ≡ 1) × (n ≡ b1)) → n < length (t .handles)
     wi a n (inl z) = omega (arith, nth-lt (t .handles) b0 i e, z .1)
@@ -56,10 +78,13 @@ member-simulates i o b0 b1 q t w y c ki ko e f g h1 h2 h3 h4 = record { like = r
     on a b n (inr z) (inr u) = z .0 ∙ sym (u .0)
 
     al : (a n : ℕ) → ((a ≡ 0) × (n ≡ b0)) ⊎ ((a ≡ 1) × (n ≡ b1)) → Alike i o (nth (t .handles) n) (nth (host-input ∷ host-paper ∷ []) a)
-    al a n (inl z) = subst (λ m. Alike i o (nth (t .handles) n) (nth (host-input ∷ host-paper ∷ []) m)) (sym (z .0)) (subst (λ p. Alike i o p (some host-input)) (sym (ap (λ m. nth (t .handles) m) (z .1) ∙ e)) refl)
-    al a n (inr z) = subst (λ m. Alike i o (nth (t .handles) n) (nth (host-input ∷ host-paper ∷ []) m)) (sym (z .0)) (subst (λ p. Alike i o p (some host-paper)) (sym (ap (λ m. nth (t .handles) m) (z .1) ∙ f)) refl)
+    al a n (inl z) = subst (λ m. Alike i o (nth (t .handles) n) (nth (host-input ∷ host-paper ∷ []) m)) (sym (z .0))
+        (subst (λ p. Alike i o p (some host-input)) (sym (ap (λ m. nth (t .handles) m) (z .1) ∙ e)) refl)
+    al a n (inr z) = subst (λ m. Alike i o (nth (t .handles) n) (nth (host-input ∷ host-paper ∷ []) m)) (sym (z .0))
+        (subst (λ p. Alike i o p (some host-paper)) (sym (ap (λ m. nth (t .handles) m) (z .1) ∙ f)) refl)
 
-pub fixed-table : (i o : Handle) (b0 b1 : ℕ) (t : System) → Input-handle i → Output-handle o → nth (t .handles) b0 ≡ some i → nth (t .handles) b1 ≡ some o → (a n : ℕ) → nth (b0 ∷ b1 ∷ []) a ≡ some n → Fixed (nth (t .handles) n)
+pub fixed-table : (i o : Handle) (b0 b1 : ℕ) (t : System) → Input-handle i → Output-handle o → nth (t .handles) b0 ≡ some i
+    → nth (t .handles) b1 ≡ some o → (a n : ℕ) → nth (b0 ∷ b1 ∷ []) a ≡ some n → Fixed (nth (t .handles) n)
 fixed-table i o b0 b1 t ki ko e f a n r = by (two-handles b0 b1 a n r)
   where
     by : ((a ≡ 0) × (n ≡ b0)) ⊎ ((a ≡ 1) × (n ≡ b1)) → Fixed (nth (t .handles) n)
@@ -118,16 +143,23 @@ like-kind ρ y c d (l-capture g) b1 h = absurd h
 pub pipeline-same : (ρ : Bool → ℕ → ℕ → Type 0) (m : Bool) (p : Pipeline) (d : Control) → Like-control ρ false (at-pipeline m p) d → d ≡ at-pipeline m p
 pipeline-same ρ m p d l-pipeline = refl
 
-pub like-pipeline : (ρ : Bool → ℕ → ℕ → Type 0) (c d : Control) (m : Bool) (e : Command) (p : Pipeline) → c ≡ at-pipeline m (piped e p) → Like-control ρ false c d → d ≡ at-pipeline m (piped e p)
+pub like-pipeline : (ρ : Bool → ℕ → ℕ → Type 0) (c d : Control) (m : Bool) (e : Command) (p : Pipeline) → c ≡ at-pipeline m (piped e p)
+    → Like-control ρ false c d → d ≡ at-pipeline m (piped e p)
 like-pipeline ρ c d m e p q l = pipeline-same ρ m (piped e p) d (subst (λ z. Like-control ρ false z d) q l)
 
 abbrev pub After : ℕ → Sink → ℕ → List ℕ → System → Local → System → Type 0
-After r k b1 table s y t = (z : Local) × (a2 : Active r k b1 t z) × Grown table s (a2 .table) t × ((o : List ℕ) × (received k t ≡ received k s ++ o) × ((n : ℕ) (q : List ℕ) (m : ℕ) (fs : List File) → Path n z q m fs → Path (suc n) y (o ++ q) m fs))
+After r k b1 table s y t = (z : Local) × (a2 : Active r k b1 t z) × Grown table s (a2 .table) t
+    × ((o : List ℕ) × (received k t ≡ received k s ++ o) × ((n : ℕ) (q : List ℕ) (m : ℕ) (fs : List File) → Path n z q m fs
+    → Path (suc n) y (o ++ q) m fs))
 
 abbrev pub Over : ℕ → Sink → (s : System) (y : Local) → System → Type 0
-Over r k s y t = (n : ℕ) × (kind-of y (y .process .control) ≡ one-step (finished n)) × (t .files ≡ y .system .files) × (find-process (t .processes) r ≡ none) × (exit-status (t .exited) r ≡ some n) × (received k t ≡ received k s) × Sink-alive k t × Unique (t .processes)
+Over r k s y t = (n : ℕ) × (kind-of y (y .process .control) ≡ one-step (finished n)) × (t .files ≡ y .system .files)
+    × (find-process (t .processes) r ≡ none) × (exit-status (t .exited) r ≡ some n) × (received k t ≡ received k s) × Sink-alive k t
+    × Unique (t .processes)
 
-path-step : (k : Sink) (s mid : System) (y z : Local) (e : Event) → kind-of y (y .process .control) ≡ one-step (local-step y) → Effect host-input (sink-handle k) s e mid → Fires Local local-step y e z → (n : ℕ) (r : List ℕ) (m : ℕ) (fs : List File) → Path n z r m fs → Path (suc n) y (outputs (e ∷ []) ++ r) m fs
+path-step : (k : Sink) (s mid : System) (y z : Local) (e : Event) → kind-of y (y .process .control) ≡ one-step (local-step y)
+    → Effect host-input (sink-handle k) s e mid → Fires Local local-step y e z → (n : ℕ) (r : List ℕ) (m : ℕ) (fs : List File) → Path n z r m fs
+    → Path (suc n) y (outputs (e ∷ []) ++ r) m fs
 path-step k s mid y z e ky x-silent st n r m fs p = subst (λ d. Leads (Path n) y d r m fs) (sym (ky ∙ ap one-step st)) p
 path-step k s mid y z e ky (x-read g h) st n r m fs p = absurd (subst Is-pipe (sym g) tt)
 path-step k s mid y z e ky (x-end h) st n r m fs p = subst (λ d. Leads (Path n) y d r m fs) (sym (ky ∙ ap one-step (st .1))) (subst (λ u. Path n u r m fs) (sym (st .2)) p)
@@ -144,8 +176,13 @@ effect-keeps k s mid e q x n = other-pipe host-input (sink-handle k) s mid e q x
     no on-paper m p f d = subst Is-pipe (sym f) tt
     no (on-pipe a b) m p f d = m (ap pipe-number f ∙ d)
 
-pub root-step : (r : ℕ) (k : Sink) (b1 : ℕ) (s : System) (y : Local) (al : Active r k b1 s y) (a : StepResult) → Not-pipeline 0 b1 (al .process .control) → step s (al .process) ≡ some a → (After r k b1 (al .table) s y (settle (al .process) a) ⊎ Over r k s y (settle (al .process) a)) × Untouched r k (al .table) s (settle (al .process) a)
-root-step r k b1 s y al a np e = by a e (simulate host-input (sink-handle k) tt (sink-output k) (al .table) s (al .process) y (al .simulates) (qt .0) (qt .1) (al .input) tt (sink-there k s (al .sink-alive)) a e) (subst (λ z. Stays? 0 b1 false s z) e (step-disciplined 0 b1 false s (al .process) np tt (al .disciplined))) (subst (λ z. Keeps? s (al .process) z) e (step-keeps s (al .process) (al .process .control)))
+pub root-step : (r : ℕ) (k : Sink) (b1 : ℕ) (s : System) (y : Local) (al : Active r k b1 s y) (a : StepResult)
+    → Not-pipeline 0 b1 (al .process .control) → step s (al .process) ≡ some a → (After r k b1 (al .table) s y (settle (al .process) a)
+    ⊎ Over r k s y (settle (al .process) a)) × Untouched r k (al .table) s (settle (al .process) a)
+root-step r k b1 s y al a np e = by a e (simulate host-input (sink-handle k) tt (sink-output k) (al .table) s (al .process) y (al .simulates) (qt .0)
+    (qt .1) (al .input) tt (sink-there k s (al .sink-alive)) a e) (subst (λ z. Stays? 0 b1 false s z) e
+    (step-disciplined 0 b1 false s (al .process) np tt (al .disciplined))) (subst (λ z. Keeps? s (al .process) z) e
+    (step-keeps s (al .process) (al .process .control)))
   where
     qt : Sequential (al .process .control) × Not-capture (al .process .control)
     qt = sequential 0 b1 false (al .process .control) (al .process .frames) (al .process .stdin) (al .process .stdout) np (al .disciplined .place)
@@ -156,8 +193,39 @@ root-step r k b1 s y al a np e = by a e (simulate host-input (sink-handle k) tt 
     wp : al .process .pid ≡ r
     wp = found-pid (s .processes) r (al .process) (al .found)
 
-    by : (a : StepResult) → step s (al .process) ≡ some a → Simulated host-input (sink-handle k) (al .table) s y a → Stays 0 b1 false s a → Keeps s (al .process) a → (After r k b1 (al .table) s y (settle (al .process) a) ⊎ Over r k s y (settle (al .process) a)) × Untouched r k (al .table) s (settle (al .process) a)
-    by (continues v u) e2 mv st ks = (inl (mv .target, record { process = v; found = fnd; above = λ q h. o1 .finds q (λ z. absurd (omega (arith, z, h))) ∙ al .above q h; once = unique-replace (u .processes) (al .process .pid) v (ks .0) (subst Unique (sym us) (al .once)); disciplined = st .0; table = mv .table′; simulates = same-handles host-input (sink-handle k) (mv .table′) u T v (mv .target) refl refl (mv .simulates); in0 = keep 0 host-input (al .in0) tt; out0 = keep b1 (sink-handle k) (al .out0) (sink-fixed k); input = mv .preserves .input ∙ rs .input ∙ al .input; fresh = λ q h. gn q ∙ al .fresh q (omega (arith, h, mv .preserves .next1, rs .next1)); not-exited = gn r ∙ al .not-exited; exists = omega (arith, al .exists, mv .preserves .next1, rs .next1); sink-low = al .sink-low; sink-alive = sk }, mv .grown, (outputs (mv .event ∷ []), out, path-step k s (mv .mid) y (mv .target) (mv .event) ky (mv .effect) (mv .fires))), o1)
+    by : (a : StepResult) → step s (al .process) ≡ some a → Simulated host-input (sink-handle k) (al .table) s y a → Stays 0 b1 false s a
+        → Keeps s (al .process) a → (After r k b1 (al .table) s y (settle (al .process) a) ⊎ Over r k s y (settle (al .process) a))
+        × Untouched r k (al .table) s (settle (al .process) a)
+    by (continues v u) e2 mv st ks = (
+      inl (
+        mv .target,
+        record {
+          process = v;
+          found = fnd;
+          above = λ q h. o1 .finds q (λ z. absurd (omega (arith, z, h))) ∙ al .above q h;
+          once = unique-replace (u .processes) (al .process .pid) v (ks .0) (subst Unique (sym us) (al .once));
+          disciplined = st .0;
+          table = mv .table′;
+          simulates = same-handles host-input (sink-handle k) (mv .table′) u T v (mv .target) refl refl (mv .simulates);
+          in0 = keep 0 host-input (al .in0) tt;
+          out0 = keep b1 (sink-handle k) (al .out0) (sink-fixed k);
+          input = mv .preserves .input ∙ rs .input ∙ al .input;
+          fresh = λ q h. gn q ∙ al .fresh q (omega (arith, h, mv .preserves .next1, rs .next1));
+          not-exited = gn r ∙ al .not-exited;
+          exists = omega (arith, al .exists, mv .preserves .next1, rs .next1);
+          sink-low = al .sink-low;
+          sink-alive = sk;
+        },
+        mv .grown,
+        (
+          outputs (mv .event ∷ []),
+          out,
+          path-step k s (mv .mid) y (mv .target) (mv .event) ky (mv .effect)
+              (mv .fires),
+        ),
+      ),
+      o1,
+    )
       where
         T : System
         T = settle (al .process) (continues v u)
@@ -169,29 +237,61 @@ root-step r k b1 s y al a np e = by a e (simulate host-input (sink-handle k) tt 
         us = mv .preserves .processes ∙ rs .processes
 
         fnd : find-process (replace (u .processes) (al .process .pid) v) r ≡ some v
-        fnd = subst (λ q. find-process (replace (u .processes) (al .process .pid) v) q ≡ some v) wp (found-replace (u .processes) (al .process .pid) (al .process) v (subst (λ z. find-process z (al .process .pid) ≡ some (al .process)) (sym us) (subst (λ q. find-process (s .processes) q ≡ some (al .process)) (sym wp) (al .found))) (ks .0))
+        fnd = subst (λ q. find-process (replace (u .processes) (al .process .pid) v) q ≡ some v) wp
+            (found-replace (u .processes) (al .process .pid) (al .process) v (subst (λ z. find-process z (al .process .pid) ≡ some (al .process))
+            (sym us) (subst (λ q. find-process (s .processes) q ≡ some (al .process)) (sym wp) (al .found))) (ks .0))
 
         gn : (q : ℕ) → exit-status (u .exited) q ≡ exit-status (s .exited) q
         gn q = ap (λ z. exit-status z q) (mv .preserves .exited ∙ rs .exited)
 
         oth : (i : ℕ) → i < length (s .handles) → ((a : ℕ) → nth (al .table) a ≡ some i → Fixed (nth (s .handles) i)) → nth (u .handles) i ≡ nth (s .handles) i
-        oth i l g = mv .preserves .others i (omega (arith, ap length (rs .handles))) (λ a q. subst (λ os. Fixed (nth os i)) (sym (rs .handles)) (g a q)) ∙ ap (λ os. nth os i) (rs .handles)
+        oth i l g = mv .preserves .others i (omega (arith, ap length (rs .handles)))
+            (λ a q. subst (λ os. Fixed (nth os i)) (sym (rs .handles)) (g a q)) ∙ ap (λ os. nth os i) (rs .handles)
 
         keep : (i : ℕ) (o : Handle) → nth (s .handles) i ≡ some o → Fixed (some o) → nth (u .handles) i ≡ some o
         keep i o f fx = oth i (nth-lt (s .handles) i o f) (λ a q. subst Fixed (sym f) fx) ∙ f
 
         o1 : Untouched r k (al .table) s T
-        o1 = record { input = mv .preserves .input ∙ rs .input; next1 = mv .preserves .next1 ∙ rs .next1; longer = omega (arith, mv .preserves .longer, ap length (rs .handles)); others = oth; finds = λ q n. other-there (u .processes) (al .process .pid) q v (λ z. n (z ∙ wp)) (ks .0) ∙ ap (λ z. find-process z q) us; statuses = λ q n. gn q; pipes = λ q n. ap (λ ps. nth ps q) (mv .preserves .pipes) ∙ effect-keeps k s (mv .mid) (mv .event) q (mv .effect) n; paper = λ q f. mv .preserves .paper ∙ other-paper host-input (sink-handle k) s (mv .mid) (mv .event) q (mv .effect) f }
+        o1 = record {
+          input = mv .preserves .input ∙ rs .input;
+          next1 = mv .preserves .next1 ∙ rs .next1;
+          longer = omega (arith, mv .preserves .longer, ap length (rs .handles));
+          others = oth;
+          finds = λ q n. other-there (u .processes) (al .process .pid) q v (λ z. n (z ∙ wp)) (ks .0) ∙ ap (λ z. find-process z q) us;
+          statuses = λ q n. gn q;
+          pipes = λ q n. ap (λ ps. nth ps q) (mv .preserves .pipes)
+              ∙ effect-keeps k s (mv .mid) (mv .event) q (mv .effect) n;
+          paper = λ q f. mv .preserves .paper
+              ∙ other-paper host-input (sink-handle k) s (mv .mid) (mv .event) q (mv .effect) f;
+        }
 
         fn2 : (q : ℕ) → q < r → find-process (T .processes) q ≡ find-process (s .processes) q
         fn2 q l = o1 .finds q (λ z. absurd (omega (arith, z, l)))
 
         sk : Sink-alive k T
-        sk = sink-alive-after k r s T (al .sink-low) fn2 (λ i p f. keep i (pipe-read p) f tt) (λ p q z. let c = effect-pipe host-input (sink-handle k) s (mv .mid) (mv .event) p (mv .effect) (sink-pipe k s p q z (al .sink-alive)) in (c .0, ap (λ ps. nth ps p) (mv .preserves .pipes) ∙ c .1)) (al .sink-alive)
+        sk = sink-alive-after k r s T (al .sink-low) fn2 (λ i p f. keep i (pipe-read p) f tt)
+            (λ p q z. let c = effect-pipe host-input (sink-handle k) s (mv .mid) (mv .event) p (mv .effect) (sink-pipe k s p q z (al .sink-alive)) in
+            (c .0, ap (λ ps. nth ps p) (mv .preserves .pipes) ∙ c .1)) (al .sink-alive)
 
         out : received k T ≡ received k s ++ outputs (mv .event ∷ [])
-        out = received-kept k (mv .mid) T r (al .sink-low) (λ q l. fn2 q l ∙ ap (λ ws. find-process ws q) (sym (rs .processes))) (mv .preserves .paper) (λ p q z. ap (λ ps. nth ps p) (mv .preserves .pipes)) ∙ received-after k host-input s (mv .mid) (mv .event) [] (received k s) (mv .effect) (input-not-pipe k) (sym (app-nil (received k s)))
-    by (exits n u) e2 (inl d) st ks = (inr (n, ky ∙ ap one-step (d .0), fl, subst (λ q. find-process (without (u .processes) (al .process .pid)) q ≡ none) wp (without-find (u .processes) (al .process .pid) (subst Unique (sym us) (al .once))), subst (λ z. pick (eqb (al .process .pid) z) (some n) (exit-status (u .exited) z) ≡ some n) wp (ap (λ z. pick z (some n) (exit-status (u .exited) (al .process .pid))) (eqb-self (al .process .pid))), received-kept k s T r (al .sink-low) fn2 (d .1 .paper) (λ p q z. ap (λ ps. nth ps p) (d .1 .pipes)), sk, unique-without (u .processes) (al .process .pid) (subst Unique (sym us) (al .once))), o1)
+        out = received-kept k (mv .mid) T r (al .sink-low) (λ q l. fn2 q l ∙ ap (λ ws. find-process ws q) (sym (rs .processes)))
+            (mv .preserves .paper) (λ p q z. ap (λ ps. nth ps p) (mv .preserves .pipes))
+            ∙ received-after k host-input s (mv .mid) (mv .event) [] (received k s) (mv .effect) (input-not-pipe k) (sym (app-nil (received k s)))
+    by (exits n u) e2 (inl d) st ks = (
+      inr (
+        n,
+        ky ∙ ap one-step (d .0),
+        fl,
+        subst (λ q. find-process
+            (without (u .processes) (al .process .pid)) q ≡ none) wp (without-find (u .processes) (al .process .pid) (subst Unique (sym us) (al .once))),
+        subst (λ z. pick (eqb (al .process .pid) z) (some n) (exit-status (u .exited) z) ≡ some n) wp
+            (ap (λ z. pick z (some n) (exit-status (u .exited) (al .process .pid))) (eqb-self (al .process .pid))),
+        received-kept k s T r (al .sink-low) fn2 (d .1 .paper) (λ p q z. ap (λ ps. nth ps p) (d .1 .pipes)),
+        sk,
+        unique-without (u .processes) (al .process .pid) (subst Unique (sym us) (al .once)),
+      ),
+      o1,
+    )
       where
         T : System
         T = settle (al .process) (exits n u)
@@ -203,15 +303,31 @@ root-step r k b1 s y al a np e = by a e (simulate host-input (sink-handle k) tt 
         fl = st ∙ al .simulates .agrees .files
 
         o1 : Untouched r k (al .table) s T
-        o1 = record { input = d .1 .input; next1 = d .1 .next1; longer = d .1 .longer; others = d .1 .others; finds = λ q m. other-left (u .processes) (al .process .pid) q (λ z. m (z ∙ wp)) ∙ ap (λ z. find-process z q) us; statuses = λ q m. ap (λ z. pick z (some n) (exit-status (u .exited) q)) (eqb-no (al .process .pid) q (λ z. m (sym z ∙ wp))) ∙ ap (λ z. exit-status z q) (d .1 .exited); pipes = λ q m. ap (λ ps. nth ps q) (d .1 .pipes); paper = λ q f. d .1 .paper }
+        o1 = record {
+          input = d .1 .input;
+          next1 = d .1 .next1;
+          longer = d .1 .longer;
+          others = d .1 .others;
+          finds = λ q m. other-left (u .processes) (al .process .pid) q (λ z. m (z ∙ wp)) ∙ ap (λ z. find-process z q) us;
+          statuses = λ q m. ap (λ z. pick z (some n) (exit-status (u .exited) q)) (eqb-no (al .process .pid) q (λ z. m (sym z ∙ wp)))
+              ∙ ap (λ z. exit-status z q) (d .1 .exited);
+          pipes = λ q m. ap (λ ps. nth ps q) (d .1 .pipes);
+          paper = λ q f. d .1 .paper;
+        }
 
         fn2 : (q : ℕ) → q < r → find-process (T .processes) q ≡ find-process (s .processes) q
         fn2 q l = o1 .finds q (λ z. absurd (omega (arith, z, l)))
 
         sk : Sink-alive k T
-        sk = sink-alive-after k r s T (al .sink-low) fn2 (λ i p f. d .1 .others i (nth-lt (s .handles) i (pipe-read p) f) (λ a q. subst Fixed (sym f) tt) ∙ f) (λ p q z. let c = sink-pipe k s p q z (al .sink-alive) in (c .0, ap (λ ps. nth ps p) (d .1 .pipes) ∙ c .1)) (al .sink-alive)
+        sk = sink-alive-after k r s T (al .sink-low) fn2 (λ i p f. d .1 .others i (nth-lt (s .handles) i (pipe-read p) f)
+            (λ a q. subst Fixed (sym f) tt) ∙ f) (λ p q z. let c = sink-pipe k s p q z (al .sink-alive) in (
+              c .0,
+              ap (λ ps. nth ps p) (d .1 .pipes)
+                  ∙ c .1,
+            )) (al .sink-alive)
     by (exits n u) e2 (inr d) st ks = absurd (no k (al .sink-alive) (d .2 .1))
       where
         no : (k : Sink) → Sink-alive k s → sink-handle k ≡ pipe-write (d .2 .0) → ⊥
         no on-paper o e = subst Is-pipe (sym e) tt
-        no (on-pipe p m) o e = subst (λ z. Fixed (pick z none (some (here-text [])))) (sym (sink-is-read p m s o) ∙ ap (λ z. held (s .handles) (reads-pipe z) (s .processes)) (ap pipe-number e) ∙ d .2 .2) tt
+        no (on-pipe p m) o e = subst (λ z. Fixed (pick z none (some (here-text [])))) (sym (sink-is-read p m s o)
+            ∙ ap (λ z. held (s .handles) (reads-pipe z) (s .processes)) (ap pipe-number e) ∙ d .2 .2) tt

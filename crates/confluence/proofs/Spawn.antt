@@ -18,7 +18,18 @@ use Rattle.confluence.proofs.Processes.{Unique}
 use Rattle.confluence.proofs.Path.{member-command}
 
 abbrev pub member : Process → Command → ℕ → ℕ → ℕ → Process
-member w c n i o = record { pid = n; control = at-command c; frames = []; stdin = i; stdout = o; variables = w .variables; functions = w .functions; arguments = w .arguments; status = w .status; jobs = [] }
+member w c n i o = record {
+  pid = n;
+  control = at-command c;
+  frames = [];
+  stdin = i;
+  stdout = o;
+  variables = w .variables;
+  functions = w .functions;
+  arguments = w .arguments;
+  status = w .status;
+  jobs = [];
+}
 
 abbrev pub members : Process → Pipeline → ℕ → ℕ → ℕ → List Process
 members w (single c) n l i = member w c n i (w .stdout) ∷ []
@@ -54,7 +65,9 @@ output-at e (piped c p) q (suc j) = output-at e p (suc q) j
 
 pub spawned-processes : (s : System) (w : Process) (p : Pipeline) (i : ℕ) → (spawn-pipeline s w p i) .processes ≡ s .processes ++ members w p (s .next-pid) (length (s .handles)) i
 spawned-processes s w (single c) i = refl
-spawned-processes s w (piped c p) i = spawned-processes (spawn (new-pipe s) w (at-command c) i (suc (length (s .handles)))) w p (length (s .handles)) ∙ app-assoc (s .processes) _ _ ∙ ap (λ l. s .processes ++ (member w c (s .next-pid) i (suc (length (s .handles))) ∷ members w p (suc (s .next-pid)) l (length (s .handles)))) (length-two (s .handles) _ _)
+spawned-processes s w (piped c p) i = spawned-processes (spawn (new-pipe s) w (at-command c) i (suc (length (s .handles)))) w p (length (s .handles))
+    ∙ app-assoc (s .processes) _ _ ∙ ap (λ l. s .processes ++ (member w c (s .next-pid) i (suc (length (s .handles))) ∷ members w p
+    (suc (s .next-pid)) l (length (s .handles)))) (length-two (s .handles) _ _)
 
 pub spawned-handles : (s : System) (w : Process) (p : Pipeline) (i : ℕ) → (spawn-pipeline s w p i) .handles ≡ s .handles ++ new-handles p (length (s .pipes))
 spawned-handles s w (single c) i = sym (app-nil (s .handles))
@@ -62,7 +75,9 @@ spawned-handles s w (single c) i = sym (app-nil (s .handles))
     app-nil : {A : Type 0} (xs : List A) → xs ++ [] ≡ xs
     app-nil [] = refl
     app-nil (x ∷ xs) = ap (λ z. x ∷ z) (app-nil xs)
-spawned-handles s w (piped c p) i = spawned-handles (spawn (new-pipe s) w (at-command c) i (suc (length (s .handles)))) w p (length (s .handles)) ∙ app-assoc (s .handles) _ _ ∙ ap (λ l. s .handles ++ (pipe-read (length (s .pipes)) ∷ pipe-write (length (s .pipes)) ∷ new-handles p l)) (length-snoc (s .pipes) [])
+spawned-handles s w (piped c p) i = spawned-handles (spawn (new-pipe s) w (at-command c) i (suc (length (s .handles)))) w p (length (s .handles))
+    ∙ app-assoc (s .handles) _ _ ∙ ap (λ l. s .handles ++ (pipe-read (length (s .pipes)) ∷ pipe-write (length (s .pipes)) ∷ new-handles p l))
+    (length-snoc (s .pipes) [])
 
 pub spawned-pipes : (s : System) (w : Process) (p : Pipeline) (i : ℕ) → (spawn-pipeline s w p i) .pipes ≡ s .pipes ++ new-pipes p
 spawned-pipes s w (single c) i = sym (app-nil (s .pipes))
@@ -81,13 +96,21 @@ pub record Rest (s t : System) (n : ℕ) : Type 0 where
 
 pub spawned-rest : (s : System) (w : Process) (p : Pipeline) (i : ℕ) → Rest s (spawn-pipeline s w p i) (pipeline-length p)
 spawned-rest s w (single c) i = record { next1 = omega arith; files = refl; input = refl; paper = refl; exited = refl }
-spawned-rest s w (piped c p) i = let r = spawned-rest (spawn (new-pipe s) w (at-command c) i (suc (length (s .handles)))) w p (length (s .handles)) in record { next1 = r .next1 ∙ omega arith; files = r .files; input = r .input; paper = r .paper; exited = r .exited }
+spawned-rest s w (piped c p) i = let r = spawned-rest (spawn (new-pipe s) w (at-command c) i (suc (length (s .handles)))) w p
+    (length (s .handles)) in record { next1 = r .next1 ∙ omega arith; files = r .files; input = r .input; paper = r .paper; exited = r .exited }
 
-pub find-members : (w : Process) (p : Pipeline) (n l i j q : ℕ) → j < pipeline-length p → q ≡ n + j → find-process (members w p n l i) q ≡ some (member w (member-command p j) q (stdin-at p l i j) (stdout-at (w .stdout) p l j))
-find-members w (single c) n l i zero q h e = let f : n ≡ q = omega (arith, e) in subst (λ z. pick (eqb n z) (some (member w c n i (w .stdout))) none ≡ some (member w c z i (w .stdout))) f (ap (λ b. pick b (some (member w c n i (w .stdout))) none) (eqb-self n))
+pub find-members : (w : Process) (p : Pipeline) (n l i j q : ℕ) → j < pipeline-length p → q ≡ n + j
+    → find-process (members w p n l i) q ≡ some (member w (member-command p j) q (stdin-at p l i j) (stdout-at (w .stdout) p l j))
+find-members w (single c) n l i zero q h e = let f : n ≡ q = omega (arith, e) in subst
+    (λ z. pick (eqb n z) (some (member w c n i (w .stdout))) none ≡ some (member w c z i (w .stdout))) f
+    (ap (λ b. pick b (some (member w c n i (w .stdout))) none) (eqb-self n))
 find-members w (single c) n l i (suc j) q h e = absurd (omega arith)
-find-members w (piped c p) n l i zero q h e = let f : n ≡ q = omega (arith, e) in subst (λ z. pick (eqb n z) (some (member w c n i (suc l))) (find-process (members w p (suc n) (suc (suc l)) l) z) ≡ some (member w c z i (suc l))) f (ap (λ b. pick b (some (member w c n i (suc l))) (find-process (members w p (suc n) (suc (suc l)) l) n)) (eqb-self n))
-find-members w (piped c p) n l i (suc j) q h e = ap (λ b. pick b (some (member w c n i (suc l))) (find-process (members w p (suc n) (suc (suc l)) l) q)) (eqb-no n q (λ f. absurd (omega (arith, e, f)))) ∙ find-members w p (suc n) (suc (suc l)) l j q (omega arith) (omega (arith, e))
+find-members w (piped c p) n l i zero q h e = let f : n ≡ q = omega (arith, e) in subst
+    (λ z. pick (eqb n z) (some (member w c n i (suc l))) (find-process (members w p (suc n) (suc (suc l)) l) z) ≡ some (member w c z i (suc l))) f
+    (ap (λ b. pick b (some (member w c n i (suc l))) (find-process (members w p (suc n) (suc (suc l)) l) n)) (eqb-self n))
+find-members w (piped c p) n l i (suc j) q h e = ap (λ b. pick b (some (member w c n i (suc l)))
+    (find-process (members w p (suc n) (suc (suc l)) l) q)) (eqb-no n q (λ f. absurd (omega (arith, e, f))))
+    ∙ find-members w p (suc n) (suc (suc l)) l j q (omega arith) (omega (arith, e))
 
 pub known-members : (w v : Process) (p : Pipeline) (n l i q : ℕ) → find-process (members w p n l i) q ≡ some v → (j : ℕ) × (j < pipeline-length p) × (q ≡ n + j)
 known-members w v (single c) n l i q e = by (eqb n q) refl e
@@ -97,32 +120,49 @@ known-members w v (single c) n l i q e = by (eqb n q) refl e
     by false f g = absurd (no-some g)
 known-members w v (piped c p) n l i q e = by (eqb n q) refl e (known-members w v p (suc n) (suc (suc l)) l q)
   where
-    by : (z : Bool) → eqb n q ≡ z → pick z (some (member w c n i (suc l))) (find-process (members w p (suc n) (suc (suc l)) l) q) ≡ some v → (find-process (members w p (suc n) (suc (suc l)) l) q ≡ some v → (j : ℕ) × (j < pipeline-length p) × (q ≡ suc n + j)) → (j : ℕ) × (j < suc (pipeline-length p)) × (q ≡ n + j)
+    by : (z : Bool) → eqb n q ≡ z → pick z (some (member w c n i (suc l))) (find-process (members w p (suc n) (suc (suc l)) l) q) ≡ some v
+        → (find-process (members w p (suc n) (suc (suc l)) l) q ≡ some v → (j : ℕ) × (j < pipeline-length p) × (q ≡ suc n + j))
+        → (j : ℕ) × (j < suc (pipeline-length p)) × (q ≡ n + j)
     by true f g k = (0, omega arith, let h : n ≡ q = grind arith in omega (arith, h))
     by false f g k = let r = k g in (suc (r .0), omega (arith, r .1), omega (arith, r .2))
 
 pub none-members : (w : Process) (p : Pipeline) (n l i q : ℕ) → q < n → find-process (members w p n l i) q ≡ none
 none-members w (single c) n l i q h = ap (λ b. pick b (some (member w c n i (w .stdout))) none) (eqb-no n q (λ f. absurd (omega (arith, f))))
-none-members w (piped c p) n l i q h = ap (λ b. pick b (some (member w c n i (suc l))) (find-process (members w p (suc n) (suc (suc l)) l) q)) (eqb-no n q (λ f. absurd (omega (arith, f)))) ∙ none-members w p (suc n) (suc (suc l)) l q (omega arith)
+none-members w (piped c p) n l i q h = ap (λ b. pick b (some (member w c n i (suc l))) (find-process (members w p (suc n) (suc (suc l)) l) q))
+    (eqb-no n q (λ f. absurd (omega (arith, f)))) ∙ none-members w p (suc n) (suc (suc l)) l q (omega arith)
 
 pub unique-members : (w : Process) (p : Pipeline) (n l i : ℕ) → Unique (members w p n l i)
 unique-members w (single c) n l i = (refl, tt)
 unique-members w (piped c p) n l i = (none-members w p (suc n) (suc (suc l)) l n (omega arith), unique-members w p (suc n) (suc (suc l)) l)
 
-pub stdin-open : (X : List Handle) (o : Handle) (p : Pipeline) (q l i j : ℕ) → length X ≡ l → nth X i ≡ some o → j < pipeline-length p → nth (X ++ new-handles p q) (stdin-at p l i j) ≡ some (input-at o p q j)
+pub stdin-open : (X : List Handle) (o : Handle) (p : Pipeline) (q l i j : ℕ) → length X ≡ l → nth X i ≡ some o → j < pipeline-length p
+    → nth (X ++ new-handles p q) (stdin-at p l i j) ≡ some (input-at o p q j)
 stdin-open X o p q l i zero e f h = nth-old X (new-handles p q) i (nth-lt X i o f) ∙ f
 stdin-open X o (single c) q l i (suc j) e f h = absurd (omega arith)
-stdin-open X o (piped c p) q l i (suc j) e f h = ap (λ z. nth z (stdin-at p (suc (suc l)) l j)) (sym (app-assoc X (pipe-read q ∷ pipe-write q ∷ []) (new-handles p (suc q)))) ∙ stdin-open (X ++ (pipe-read q ∷ pipe-write q ∷ [])) (pipe-read q) p (suc q) (suc (suc l)) l j (length-two X (pipe-read q) (pipe-write q) ∙ ap (λ z. suc (suc z)) e) (subst (λ z. nth (X ++ (pipe-read q ∷ pipe-write q ∷ [])) z ≡ some (pipe-read q)) e (nth-one X (pipe-read q) (pipe-write q))) (omega arith)
+stdin-open X o (piped c p) q l i (suc j) e f h = ap (λ z. nth z (stdin-at p (suc (suc l)) l j))
+    (sym (app-assoc X (pipe-read q ∷ pipe-write q ∷ []) (new-handles p (suc q)))) ∙ stdin-open (X ++ (pipe-read q ∷ pipe-write q ∷ []))
+    (pipe-read q) p (suc q) (suc (suc l)) l j (length-two X (pipe-read q) (pipe-write q)
+    ∙ ap (λ z. suc (suc z)) e) (subst (λ z. nth (X ++ (pipe-read q ∷ pipe-write q ∷ [])) z ≡ some (pipe-read q)) e
+    (nth-one X (pipe-read q) (pipe-write q))) (omega arith)
 
-pub stdout-open : (X : List Handle) (oo : Handle) (p : Pipeline) (q l o j : ℕ) → length X ≡ l → nth X o ≡ some oo → j < pipeline-length p → nth (X ++ new-handles p q) (stdout-at o p l j) ≡ some (output-at oo p q j)
+pub stdout-open : (X : List Handle) (oo : Handle) (p : Pipeline) (q l o j : ℕ) → length X ≡ l → nth X o ≡ some oo → j < pipeline-length p
+    → nth (X ++ new-handles p q) (stdout-at o p l j) ≡ some (output-at oo p q j)
 stdout-open X oo (single c) q l o j e f h = nth-old X [] o (nth-lt X o oo f) ∙ f
-stdout-open X oo (piped c p) q l o zero e f h = ap (λ z. nth z (suc l)) (sym (app-assoc X (pipe-read q ∷ pipe-write q ∷ []) (new-handles p (suc q)))) ∙ nth-old (X ++ (pipe-read q ∷ pipe-write q ∷ [])) (new-handles p (suc q)) (suc l) (omega (arith, length-two X (pipe-read q) (pipe-write q), e)) ∙ subst (λ z. nth (X ++ (pipe-read q ∷ pipe-write q ∷ [])) (suc z) ≡ some (pipe-write q)) e (nth-two X (pipe-read q) (pipe-write q))
-stdout-open X oo (piped c p) q l o (suc j) e f h = ap (λ z. nth z (stdout-at o p (suc (suc l)) j)) (sym (app-assoc X (pipe-read q ∷ pipe-write q ∷ []) (new-handles p (suc q)))) ∙ stdout-open (X ++ (pipe-read q ∷ pipe-write q ∷ [])) oo p (suc q) (suc (suc l)) o j (length-two X (pipe-read q) (pipe-write q) ∙ ap (λ z. suc (suc z)) e) (nth-old X _ o (nth-lt X o oo f) ∙ f) (omega arith)
+stdout-open X oo (piped c p) q l o zero e f h = ap (λ z. nth z (suc l)) (sym (app-assoc X (pipe-read q ∷ pipe-write q ∷ []) (new-handles p (suc q))))
+    ∙ nth-old (X ++ (pipe-read q ∷ pipe-write q ∷ [])) (new-handles p (suc q)) (suc l) (omega (arith, length-two X (pipe-read q) (pipe-write q), e))
+    ∙ subst (λ z. nth (X ++ (pipe-read q ∷ pipe-write q ∷ [])) (suc z) ≡ some (pipe-write q)) e (nth-two X (pipe-read q) (pipe-write q))
+stdout-open X oo (piped c p) q l o (suc j) e f h = ap (λ z. nth z (stdout-at o p (suc (suc l)) j))
+    (sym (app-assoc X (pipe-read q ∷ pipe-write q ∷ []) (new-handles p (suc q)))) ∙ stdout-open (X ++ (pipe-read q ∷ pipe-write q ∷ [])) oo p (suc q)
+    (suc (suc l)) o j (length-two X (pipe-read q) (pipe-write q) ∙ ap (λ z. suc (suc z)) e) (nth-old X _ o (nth-lt X o oo f) ∙ f) (omega arith)
 
 pub new-pipe-empty : (Y : List (List ℕ)) (p : Pipeline) (j l : ℕ) → length Y ≡ l → suc j < pipeline-length p → nth (Y ++ new-pipes p) (l + j) ≡ some []
 new-pipe-empty Y (single c) j l e h = absurd (omega arith)
-new-pipe-empty Y (piped c p) zero l e h = ap (λ z. nth z (l + 0)) (sym (app-assoc Y ([] ∷ []) (new-pipes p))) ∙ nth-old (Y ++ ([] ∷ [])) (new-pipes p) (l + 0) (omega (arith, length-snoc Y [], e)) ∙ subst (λ z. nth (Y ++ ([] ∷ [])) z ≡ some []) (omega (arith, e)) (nth-new Y [])
-new-pipe-empty Y (piped c p) (suc j) l e h = ap (λ z. nth z (l + suc j)) (sym (app-assoc Y ([] ∷ []) (new-pipes p))) ∙ subst (λ z. nth ((Y ++ ([] ∷ [])) ++ new-pipes p) z ≡ some []) (omega arith) (new-pipe-empty (Y ++ ([] ∷ [])) p j (suc l) (length-snoc Y [] ∙ ap (λ z. suc z) e) (omega arith))
+new-pipe-empty Y (piped c p) zero l e h = ap (λ z. nth z (l + 0)) (sym (app-assoc Y ([] ∷ []) (new-pipes p)))
+    ∙ nth-old (Y ++ ([] ∷ [])) (new-pipes p) (l + 0) (omega (arith, length-snoc Y [], e))
+    ∙ subst (λ z. nth (Y ++ ([] ∷ [])) z ≡ some []) (omega (arith, e)) (nth-new Y [])
+new-pipe-empty Y (piped c p) (suc j) l e h = ap (λ z. nth z (l + suc j)) (sym (app-assoc Y ([] ∷ []) (new-pipes p)))
+    ∙ subst (λ z. nth ((Y ++ ([] ∷ [])) ++ new-pipes p) z ≡ some []) (omega arith) (new-pipe-empty (Y ++ ([] ∷ [])) p j (suc l) (length-snoc Y []
+    ∙ ap (λ z. suc z) e) (omega arith))
 
 pub input-of-next : (o : Handle) (p : Pipeline) (q j : ℕ) → suc j < pipeline-length p → input-at o p q (suc j) ≡ pipe-read (q + j)
 input-of-next o (single c) q j h = absurd (omega arith)
