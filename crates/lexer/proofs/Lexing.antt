@@ -7,13 +7,13 @@ use Prim.Native.Nat.{ℕ, zero, suc, _+_, _-_, _*_, _≤_, _<_}
 use native.Mathlib.Omega.{arith}
 use lib.ListN.{length, take, drop, getD, set}
 use lib.Dec.{eqb, T}
-use Rattle.std.proofs.shelf.Lists.{drop-all, append-nil, append-assoc, length-append, length-push, getD-push, getD-append-left, getD-set-same, getD-set-other, length-set}
+use Rattle.std.proofs.shelf.Lists.{drop-all, drop-more, append-nil, append-assoc, length-append, length-push, getD-push, getD-append-left, getD-set-same, getD-set-other, length-set}
 use Rattle.lexer.specs.declared.Bracket.{Bracket}
 use Rattle.lexer.specs.declared.Bracket.the-variants.{Neither, Opens, Closes}
 use Rattle.syntax.specs.Base.{pick}
 use Rattle.grammar.specs.Tokens.{Token, token, tokens, start, top-of, rest-of}
 use Rattle.grammar.specs.Grammar.{sign}
-use Rattle.lexer.specs.Stored.{token-code, Spelled, TokenAt, TokensAt, resting, moved, Stepped, silent, cut, Cuts, opens-substitution, opens-in-quotes, tokens-of, Has}
+use Rattle.lexer.specs.Stored.{token-code, Spelled, TokenAt, TokensAt, resting, moved, Stepped, silent, cut, Cuts, opens-substitution, opens-in-quotes, tokens-of, tokens-from, code-at, Has}
 use Rattle.lexer.proofs.Next.{eqb-no, sign-0}
 
 -- open brackets: the third word of a bracket's token is where the one around it stands
@@ -176,3 +176,16 @@ pub finish-quoted : {t m : List ℕ} {at : ℕ} {d g : Bool} {top n : ℕ} → L
 finish-quoted {t} {m} {at} {d} {g} {top} {n} h l e r =
     let q : tokens start t ≡ h .done ++ (sign (34 ∷ []) ∷ []) = h .says ∙ rw (e, drop-all at t l) in
     has-all t _ (n + 1) (omega (arith, ap length q, length-push (h .done) (sign (34 ∷ [])), h .count)) (subst (λ z. TokensAt t z (set (set m (3 * n + 3) 45) (3 * n + 3 + 1) (length t))) (sym q) (push t (h .done) (sign (34 ∷ [])) m _ n (h .toks) (h .count) (λ k x. below2 m (3 * n + 3) 45 (length t) k (omega arith)) (at2-0 m (3 * n + 3) 45 (length t) (omega arith) ∙ sign-0 .4, λ x. absurd (omega arith))))
+
+-- the tokens from one on: that one and those behind it, or none
+pub here : {t : List ℕ} {n : ℕ} {m : List ℕ} (i : ℕ) → Has t n m → i < n → tokens-from t i ≡ getD (tokens-of t) i (token false 0 []) ∷ tokens-from t (i + 1)
+here {t} {n} i h l = drop-more (tokens-of t) i (token false 0 []) (omega (arith, h .count))
+
+pub there : {t : List ℕ} {n : ℕ} {m : List ℕ} (i : ℕ) → Has t n m → n ≤ i → tokens-from t i ≡ []
+there {t} i h l = drop-all i (tokens-of t) (omega (arith, h .count))
+
+pub code-in : {t : List ℕ} {n : ℕ} {m : List ℕ} (i : ℕ) → Has t n m → i < n → getD m (3 * i + 3) 0 ≡ code-at (tokens-from t i)
+code-in i h l = rw (here i h l) (h .stored i (omega (arith, h .count)) .0)
+
+pub code-out : {t : List ℕ} {n : ℕ} {m : List ℕ} (i : ℕ) → Has t n m → n ≤ i → 47 ≡ code-at (tokens-from t i)
+code-out i h l = rw (there i h l)

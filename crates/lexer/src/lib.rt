@@ -2,7 +2,7 @@
 ghost use Prim.Native.Nat.{ℕ, _+_, _-_, _*_, _^_, _<_, _≤_};
 ghost use Rattle.grammar.specs.Grammar.{reserved};
 ghost use Rattle.grammar.specs.Tokens.{doubles, ends-word};
-ghost use Rattle.lexer.specs.Stored.{Cuts, Has, bare-code, ends-run, index-of, opens-in-quotes, run-length, sign-code};
+ghost use Rattle.lexer.specs.Stored.{Cuts, Has, bare-code, code-at, ends-run, index-of, opens-in-quotes, run-length, sign-code, tokens-from};
 ghost use Rattle.syntax.specs.Base.{digit, letter, pick, same, valid-name};
 ghost use lib.Dec.{eqb};
 ghost use lib.ListN.{drop, getD, length, take};
@@ -574,4 +574,15 @@ pub fn tokenize(text: &[u8], words: &mut [u32]) -> usize
         return n + 1;
     }
     n
+}
+
+/// The code of the token `at` of `n`, or `END`.
+pub fn token_code(text: &[u8], tokens: &[u32], n: usize, at: usize) -> u32
+    requires { ⌜ Has (now text) n (now tokens) ⌝ ∗ ⌜ 3 * n + 3 ≤ length (now tokens) ⌝ }
+    ensures { λ r. ⌜ r ≡ code-at (tokens-from (now (text .entry)) at) ⌝ }
+{
+    if at < n {
+        return tokens[3 * at + 3];
+    }
+    END
 }

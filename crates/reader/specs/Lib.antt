@@ -1,0 +1,5 @@
+-- Reading: from a text to code.
+pub mod Layout
+pub mod Code
+pub mod Reading
+pub mod Aheads
