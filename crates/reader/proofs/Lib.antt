@@ -24,3 +24,4 @@ pub mod Levels
 pub mod Lists
 pub mod Elses
 pub mod Commands
+pub mod Wholes

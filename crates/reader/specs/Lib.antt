@@ -3,3 +3,4 @@ pub mod Layout
 pub mod Code
 pub mod Reading
 pub mod Aheads
+pub mod Answer

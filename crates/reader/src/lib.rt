@@ -3,6 +3,7 @@ ghost use Prim.Native.Nat.{ℕ, _+_, _-_, _*_, _<_, _≤_, max};
 ghost use Rattle.grammar.specs.Parser.{function-at, la-paren, level, lookahead, open-brace, open-case, open-for, open-if, open-while, parse-and-or, parse-arms, parse-assignments, parse-command, parse-command-by, parse-function, parse-more, parse-negatable, parse-opener, parse-part, parse-pipeline, parse-redirects, parse-simple, parse-word, parse-words};
 ghost use Rattle.lexer.specs.Stored.{Has, code-at, tokens-from};
 ghost use Rattle.reader.specs.Reading.{GotAndOr, GotArms, GotAssignments, GotCommand, GotElse, GotList, GotMore, GotNegatable, GotPart, GotPipeline, GotRedirects, GotValue, GotWord, GotWords, Nest, Ready, Room, bare, ends-words, joins, may-be-first, names, part-tag, tag-stage, value-of};
+ghost use Rattle.reader.specs.Answer.{IsProgram, NoProgram};
 ghost use Rattle.reader.specs.Aheads.{la-of};
 ghost use Rattle.reader.specs.Layout.{flag};
 ghost use Rattle.std.specs.declared.result.Result.the-variants.{Err, Ok};
@@ -20,8 +21,9 @@ use crate::ahead::ahead_by;
 use crate::ahead::closes;
 use crate::ahead::is_newline;
 use crate::ahead::is_not;
-use crate::error::Expected;
+pub use crate::error::Expected;
 use crate::error::Stop;
+pub use crate::error::SyntaxError;
 use lexer::AMPERSAND;
 use lexer::AND;
 use lexer::ASSIGNMENT;
@@ -34,6 +36,7 @@ use lexer::JOINED;
 use lexer::JOINED_LITERAL;
 use lexer::KEYWORD;
 use lexer::LITERAL;
+use lexer::MAX_TEXT;
 use lexer::NEWLINE;
 use lexer::OPEN_PAREN;
 use lexer::OR;
@@ -41,6 +44,7 @@ use lexer::PIPE;
 use lexer::SEMICOLON;
 use lexer::VALID_NAME;
 use lexer::token_code;
+use lexer::tokenize;
 
 mod ahead;
 mod error;
@@ -1374,4 +1378,82 @@ fn else_part(
     let b = list(text, tokens, n, code, inner, command + 3, left - 1, false)?;
     let c = else_part(text, tokens, n, code, b, command + 4, left - 1)?;
     Ok(c)
+}
+
+/// Words of code for each byte of a text, and besides.
+pub const CODE_PER_BYTE: usize = 16;
+
+pub const CODE_EXTRA: usize = 160;
+/// Words for the tokens, for each byte of a text, and besides.
+pub const TOKENS_PER_BYTE: usize = 3;
+
+pub const TOKENS_EXTRA: usize = 6;
+
+/// Lists stand less deep than this.
+const LEVELS: u32 = 33;
+/// The word that links to the first cell, and the first free word.
+const ROOT: usize = 1;
+
+const FIRST: usize = 2;
+
+/// A text as code: the address of its first cell, how many words the code takes, and its stage.
+#[derive(Clone, Copy, Drop)]
+pub struct Program {
+    pub root: u32,
+    pub words: usize,
+    pub stage: u32,
+}
+
+/// Where a token starts in the text.
+fn place(text: &[u8], tokens: &[u32], n: usize, at: usize) -> usize
+    requires { ⌜ 3 * n + 3 ≤ length (now tokens) ⌝ }
+    ensures { λ r. ⌜ r ≤ length (now (text .entry)) ⌝ }
+{
+    if at < n {
+        let start = tokens[3 * at + 4] as usize;
+        if start < text.len() {
+            return start;
+        }
+    }
+    text.len()
+}
+
+/// Reads a text: writes its code, with the tokens as words beside it.
+pub fn read(text: &[u8], code: &mut [u32], tokens: &mut [u32]) -> Result<Program, SyntaxError>
+    requires { ⌜ 16 * length (now text) + 160 ≤ length (now code) ⌝ ∗ ⌜ length (now code) < 4294967296 ⌝ ∗ ⌜ 3 * length (now text) + 6 ≤ length (now tokens) ⌝ }
+    ensures { λ r. ⌜ elim r [ Ok p ↦ IsProgram (now (text .entry)) (now (code .exit)) (p .root) (p .words) (p .stage) | Err e ↦ NoProgram (now (text .entry)) (e .at) ] ⌝ }
+{
+    if text.len() > MAX_TEXT {
+        return Err(SyntaxError {
+            at: MAX_TEXT,
+            expected: Expected::ShorterText,
+        });
+    }
+    let n = tokenize(text, tokens);
+    let start = Cursor {
+        at: 0,
+        free: FIRST,
+        stage: 0,
+    };
+    match list(text, tokens, n, code, start, ROOT, LEVELS, true) {
+        Err(stop) => {
+            return Err(SyntaxError {
+                at: place(text, tokens, n, stop.token),
+                expected: stop.expected,
+            });
+        }
+        Ok(end) => {
+            if end.at < n {
+                return Err(SyntaxError {
+                    at: place(text, tokens, n, end.at),
+                    expected: Expected::End,
+                });
+            }
+            return Ok(Program {
+                root: code[ROOT],
+                words: end.free,
+                stage: end.stage,
+            });
+        }
+    }
 }
