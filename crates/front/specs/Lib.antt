@@ -1,0 +1,2 @@
+-- Places in a text.
+pub mod Places

@@ -1,0 +1,2 @@
+-- Tokens kept as words.
+pub mod Stored

@@ -1,0 +1,2 @@
+-- What `run` promises.
+pub mod Says

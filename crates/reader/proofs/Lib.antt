@@ -1,0 +1,27 @@
+-- Laws of reading.
+pub mod Basics
+pub mod Frame
+pub mod Free
+pub mod Views
+pub mod Eats
+pub mod Signs
+pub mod Toks
+pub mod Sets
+pub mod First
+pub mod Chains
+pub mod Parts
+pub mod Lines
+pub mod Setting
+pub mod SimpleCommands
+pub mod Stages
+pub mod Names
+pub mod Expects
+pub mod Compounds
+pub mod Pipelines
+pub mod AndOrs
+pub mod ArmChains
+pub mod Levels
+pub mod Lists
+pub mod Elses
+pub mod Commands
+pub mod Wholes
