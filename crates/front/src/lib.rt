@@ -4,6 +4,7 @@ ghost use Prim.Native.Nat.{ℕ, _<_, _^_};
 ghost use lib.ListN.{take};
 ghost use Rattle.front.specs.Places.{after-byte, place-after};
 
+pub mod faults;
 pub mod files;
 pub mod options;
 pub mod visible;

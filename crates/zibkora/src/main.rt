@@ -1,6 +1,9 @@
 //! Runs a text of commands: its paper goes to standard output, how it came out to standard error.
 use front::Outcome;
 use front::OutcomeDisplay;
+use front::faults::read_text;
+use front::faults::Fault;
+use front::faults::FaultDisplay;
 use front::files::fill;
 use front::on_paper;
 use front::options::Options;
@@ -69,6 +72,24 @@ fn text_of(rt: &LibcRuntime, source: &Source, buffer: &mut [u8]) -> io::Result<u
     }
 }
 
+/// The name of a text in messages.
+fn name_of(source: &Source) -> &str {
+    match source {
+        Source::File(name) => name.as_str(),
+        Source::Text(_) => "-c",
+    }
+}
+
+/// Where reading the text stopped, on standard error.
+fn explain(rt: &LibcRuntime, source: &Source, text: &[u8]) -> Result<(), AnyError> {
+    let reading = read_text(rt.alloc(), text)?;
+    if let Err(error) = reading.program {
+        let fault = Fault { name: name_of(source), text, error };
+        eprintln!(rt, "{fault}")?;
+    }
+    Ok(())
+}
+
 fn run_text(rt: &LibcRuntime, o: &Options, source: &Source) -> Result<Ran, AnyError> {
     let heap = rt.alloc();
     let mut text = vec![in heap; 0u8; TEXT_BYTES]?;
@@ -100,6 +121,9 @@ fn run_text(rt: &LibcRuntime, o: &Options, source: &Source) -> Result<Ran, AnyEr
         &mut paper,
         &mut work,
     );
+    if let Ran::NoText = r {
+        explain(rt, source, &text[0..n])?;
+    }
     let k = on_paper(r);
     if k <= paper.len() {
         rt.stdout().write_all(&paper[0..k])?;
