@@ -39,13 +39,13 @@ pub fn expected_text(e: Expected) -> &'static str {
 
 /// Why a text of this name is no list of commands.
 #[derive(Clone, Copy)]
-pub struct Fault<'a> {
-    pub name: &'a str,
-    pub text: &'a [u8],
+pub struct Fault<'n, 't> {
+    pub name: &'n str,
+    pub text: &'t [u8],
     pub error: SyntaxError,
 }
 
-pub impl fmt::Display for Fault<'_> as FaultDisplay {
+pub impl fmt::Display for Fault<'_, '_> as FaultDisplay {
     fn fmt<W: fmt::Write>(&self, f: &mut fmt::Formatter<W>) -> fmt::Result {
         let name = self.name;
         let place = place_at(self.text, self.error.at.min(LONGEST));
