@@ -122,12 +122,29 @@ const KEYWORD_NOT: u32 = 31;
 /// The end of a chain.
 const NIL: u32 = 0;
 
+/// Flags.
+const NO: u32 = 0;
+
+const YES: u32 = 1;
+
+/// The last code of a token that is joined, and the code of a token that is not and is no part of a word.
+const LAST_JOINED: u32 = 15;
+
+const NO_PART: u32 = 7;
+
 /// Where reading stands: the next token, the first free word, and the highest stage so far.
 #[derive(Clone, Copy, Drop)]
 pub struct Cursor {
     at: usize,
     free: usize,
     stage: u32,
+}
+
+fn stop(token: usize, expected: Expected) -> Stop {
+    Stop {
+        token: token,
+        expected: expected,
+    }
 }
 
 fn raised(stage: u32, by: u32) -> u32
@@ -140,7 +157,7 @@ fn raised(stage: u32, by: u32) -> u32
 fn is_joined(code: u32) -> bool
     ensures { λ r. ⌜ r ≡ joins code ⌝ }
 {
-    JOINED <= code && code <= 15
+    JOINED <= code && code <= LAST_JOINED
 }
 
 /// The tag of the part that a token begins.
@@ -160,7 +177,7 @@ fn tag(code: u32) -> u32
         return TAG_LITERAL;
     }
     let q = if code >= JOINED { code - JOINED } else { code };
-    if q == 7 { TAG_NONE } else { q }
+    if q == NO_PART { TAG_NONE } else { q }
 }
 
 fn ends_words(code: u32) -> bool
@@ -176,7 +193,7 @@ fn may_be_first(code: u32, joined: bool) -> bool
     if code >= ASSIGNMENT {
         return false;
     }
-    if KEYWORD <= code && code <= 31 {
+    if KEYWORD <= code && code <= KEYWORD_NOT {
         return joined;
     }
     true
@@ -259,15 +276,9 @@ fn expect(
         if token_code(text, tokens, n, at) == wanted {
             return Ok(());
         }
-        return Err(Stop {
-            token: at,
-            expected: expected,
-        });
+        return Err(stop(at, expected));
     }
-    Err(Stop {
-        token: at,
-        expected: expected,
-    })
+    Err(stop(at, expected))
 }
 
 /// A part of a word. Its cell stands at the first free word: next, tag, and start and length of its bytes or the link of
@@ -284,18 +295,12 @@ fn part(
     ensures { λ r. ⌜ elim r [ Ok g ↦ GotPart (now (text .entry)) n (from .at) left (now (code .entry)) (now (code .exit)) (from .free) (g .at) (g .free) (from .stage) (g .stage) | Err e ↦ parse-part (level left) (tokens-from (now (text .entry)) (from .at)) ≡ none ] ⌝ }
 {
     if from.at >= n {
-        return Err(Stop {
-            token: from.at,
-            expected: Expected::Word,
-        });
+        return Err(stop(from.at, Expected::Word));
     }
     let top = from.free;
     let tag = tag(token_code(text, tokens, n, from.at));
     if tag == TAG_NONE {
-        return Err(Stop {
-            token: from.at,
-            expected: Expected::Word,
-        });
+        return Err(stop(from.at, Expected::Word));
     }
     if tag < TAG_NONE {
         let start = tokens[3 * from.at + 4];
@@ -366,10 +371,7 @@ fn word(
     ensures { λ r. ⌜ elim r [ Ok g ↦ GotWord (now (text .entry)) n (from .at) left (now (code .entry)) (now (code .exit)) (from .free) link (g .at) (g .free) (from .stage) (g .stage) | Err e ↦ parse-word (level left) (tokens-from (now (text .entry)) (from .at)) ≡ none ] ⌝ }
 {
     if is_joined(token_code(text, tokens, n, from.at)) {
-        return Err(Stop {
-            token: from.at,
-            expected: Expected::Word,
-        });
+        return Err(stop(from.at, Expected::Word));
     }
     let cell = from.free;
     code[link] = cell as u32;
@@ -399,10 +401,7 @@ fn words(
             return Ok(cursor);
         }
         if cursor.at >= n {
-            return Err(Stop {
-                token: cursor.at,
-                expected: Expected::Word,
-            });
+            return Err(stop(cursor.at, Expected::Word));
         }
         let cell = cursor.free;
         code[open] = cell as u32;
@@ -442,10 +441,7 @@ fn redirects(
             return Ok(cursor);
         }
         if cursor.at >= n {
-            return Err(Stop {
-                token: cursor.at,
-                expected: Expected::Word,
-            });
+            return Err(stop(cursor.at, Expected::Word));
         }
         let cell = cursor.free;
         code[open] = cell as u32;
@@ -520,10 +516,7 @@ fn assignments(
             return Ok(cursor);
         }
         if cursor.at >= n {
-            return Err(Stop {
-                token: cursor.at,
-                expected: Expected::Word,
-            });
+            return Err(stop(cursor.at, Expected::Word));
         }
         let start = tokens[3 * cursor.at + 4];
         let len = tokens[3 * cursor.at + 5];
@@ -575,33 +568,21 @@ fn simple(
     let token = token_code(text, tokens, n, a.at);
     if ends_words(token) {
         if code[top + 2] == NIL {
-            return Err(Stop {
-                token: a.at,
-                expected: Expected::Command,
-            });
+            return Err(stop(a.at, Expected::Command));
         }
         code[top + 3] = NIL;
         code[top + 4] = NIL;
         return Ok(a);
     }
     if a.at >= n {
-        return Err(Stop {
-            token: a.at,
-            expected: Expected::Word,
-        });
+        return Err(stop(a.at, Expected::Word));
     }
     if is_joined(token) {
-        return Err(Stop {
-            token: a.at,
-            expected: Expected::Word,
-        });
+        return Err(stop(a.at, Expected::Word));
     }
     let joined = is_joined(token_code(text, tokens, n, a.at + 1));
     if !may_be_first(token, joined) {
-        return Err(Stop {
-            token: a.at,
-            expected: Expected::Command,
-        });
+        return Err(stop(a.at, Expected::Command));
     }
     let cell = a.free;
     code[top + 3] = cell as u32;
@@ -807,15 +788,9 @@ fn separator(text: &[u8], tokens: &[u32], n: usize, at: usize) -> Result<(), Sto
         if token == NEWLINE {
             return Ok(());
         }
-        return Err(Stop {
-            token: at,
-            expected: Expected::Separator,
-        });
+        return Err(stop(at, Expected::Separator));
     }
-    Err(Stop {
-        token: at,
-        expected: Expected::Separator,
-    })
+    Err(stop(at, Expected::Separator))
 }
 
 /// for name in words do list done: next, tag, start and length of the name, words, body, redirections.
@@ -834,16 +809,10 @@ fn for_loop(
     let name = from.at + 1;
     let token = token_code(text, tokens, n, name);
     if name >= n {
-        return Err(Stop {
-            token: name,
-            expected: Expected::Name,
-        });
+        return Err(stop(name, Expected::Name));
     }
     if !is_name(token) {
-        return Err(Stop {
-            token: name,
-            expected: Expected::Name,
-        });
+        return Err(stop(name, Expected::Name));
     }
     let top = from.free;
     code[top + 1] = TAG_FOR;
@@ -890,10 +859,7 @@ fn function(
 {
     let token = token_code(text, tokens, n, from.at);
     if token != VALID_NAME {
-        return Err(Stop {
-            token: from.at,
-            expected: Expected::Name,
-        });
+        return Err(stop(from.at, Expected::Name));
     }
     let open = from.at + 1;
     expect(text, tokens, n, open, OPEN_PAREN, Expected::Command)?;
@@ -1027,10 +993,7 @@ fn command(
     ensures { λ r. ⌜ elim r [ Ok g ↦ GotCommand (now (text .entry)) n (from .at) (parse-command (level left) (tokens-from (now (text .entry)) (from .at))) (now (code .entry)) (now (code .exit)) (from .free) (g .at) (g .free) (from .stage) (g .stage) | Err e ↦ parse-command (level left) (tokens-from (now (text .entry)) (from .at)) ≡ none ] ⌝ }
 {
     if from.at >= n {
-        return Err(Stop {
-            token: from.at,
-            expected: Expected::Command,
-        });
+        return Err(stop(from.at, Expected::Command));
     }
     match look(text, tokens, n, from.at) {
         Ahead::Part => {
@@ -1066,10 +1029,7 @@ fn command(
             return Ok(c);
         }
         _ => {
-            return Err(Stop {
-                token: from.at,
-                expected: Expected::Command,
-            });
+            return Err(stop(from.at, Expected::Command));
         }
     }
 }
@@ -1098,10 +1058,7 @@ fn pipeline(
             return Ok(c);
         }
         if c.at >= n {
-            return Err(Stop {
-                token: c.at,
-                expected: Expected::Command,
-            });
+            return Err(stop(c.at, Expected::Command));
         }
         cursor = Cursor {
             at: c.at + 1,
@@ -1128,7 +1085,7 @@ fn negatable(
     let top = from.free;
     if is_not(look(text, tokens, n, from.at)) {
         expect(text, tokens, n, from.at, KEYWORD_NOT, Expected::Command)?;
-        code[top + 2] = 1;
+        code[top + 2] = YES;
         let inner = Cursor {
             at: from.at + 1,
             free: top + 4,
@@ -1137,7 +1094,7 @@ fn negatable(
         let p = pipeline(text, tokens, n, code, inner, top + 3, left)?;
         return Ok(p);
     }
-    code[top + 2] = 0;
+    code[top + 2] = NO;
     let inner = Cursor {
         at: from.at,
         free: top + 4,
@@ -1174,10 +1131,7 @@ fn and_or(
             return Ok(cursor);
         }
         if cursor.at >= n {
-            return Err(Stop {
-                token: from.at,
-                expected: Expected::Command,
-            });
+            return Err(stop(from.at, Expected::Command));
         }
         let last = cursor.free;
         let inner = Cursor {
@@ -1203,7 +1157,7 @@ fn ends_command(code: u32) -> bool
 fn background(code: u32) -> u32
     ensures { λ r. ⌜ r ≡ flag (eqb code 34) ⌝ }
 {
-    if code == AMPERSAND { 1 } else { 0 }
+    if code == AMPERSAND { YES } else { NO }
 }
 
 /// The stage of a command's end.
@@ -1233,10 +1187,7 @@ fn list(
     ensures { λ r. ⌜ elim r [ Ok g ↦ GotList (now (text .entry)) n (from .at) left last (now (code .entry)) (now (code .exit)) (from .free) link (g .at) (g .free) (from .stage) (g .stage) | Err e ↦ level left .lists last (tokens-from (now (text .entry)) (from .at)) ≡ none ] ⌝ }
 {
     if left == 0 {
-        return Err(Stop {
-            token: from.at,
-            expected: Expected::LessDepth,
-        });
+        return Err(stop(from.at, Expected::LessDepth));
     }
     let mut cursor = from;
     let mut open = link;
@@ -1266,20 +1217,14 @@ fn list(
         let token = token_code(text, tokens, n, c.at);
         if !ends_command(token) {
             if !last {
-                return Err(Stop {
-                    token: c.at,
-                    expected: Expected::Terminator,
-                });
+                return Err(stop(c.at, Expected::Terminator));
             }
-            code[cell + 1] = 0;
+            code[cell + 1] = NO;
             code[cell] = NIL;
             return Ok(c);
         }
         if c.at >= n {
-            return Err(Stop {
-                token: c.at,
-                expected: Expected::Terminator,
-            });
+            return Err(stop(c.at, Expected::Terminator));
         }
         code[cell + 1] = background(token);
         cursor = Cursor {
@@ -1298,10 +1243,10 @@ fn nest(code: &mut [u32], top: usize, cell: usize, node: usize, command: usize)
 {
     code[top] = cell as u32;
     code[cell] = NIL;
-    code[cell + 1] = 0;
+    code[cell + 1] = NO;
     code[cell + 2] = node as u32;
     code[node] = NIL;
-    code[node + 2] = 0;
+    code[node + 2] = NO;
     code[node + 3] = command as u32;
     code[command] = NIL;
     code[command + 1] = TAG_IF;
@@ -1322,17 +1267,11 @@ fn else_part(
     ensures { λ r. ⌜ elim r [ Ok g ↦ GotElse (now (text .entry)) n (from .at) left (now (code .entry)) (now (code .exit)) (from .free) link (g .at) (g .free) (from .stage) (g .stage) | Err e ↦ level left .elses (tokens-from (now (text .entry)) (from .at)) ≡ none ] ⌝ }
 {
     if left == 0 {
-        return Err(Stop {
-            token: from.at,
-            expected: Expected::LessDepth,
-        });
+        return Err(stop(from.at, Expected::LessDepth));
     }
     let token = token_code(text, tokens, n, from.at);
     if from.at >= n {
-        return Err(Stop {
-            token: from.at,
-            expected: Expected::Fi,
-        });
+        return Err(stop(from.at, Expected::Fi));
     }
     if token == KEYWORD_FI {
         code[link] = NIL;
