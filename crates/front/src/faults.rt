@@ -2,10 +2,10 @@
 ghost use Prim.Native.Nat.{ℕ, _≤_};
 ghost use lib.ListN.{length};
 use crate::place_at;
-use reader::read;
 use reader::Expected;
 use reader::Program;
 use reader::SyntaxError;
+use reader::read;
 use std::alloc::AllocError;
 use std::alloc::Global;
 use std::fmt;
@@ -67,8 +67,14 @@ pub struct Reading {
 pub fn read_text(heap: Global, text: &[u8]) -> Result<Reading, AllocError> {
     let n = text.len();
     if n > LONGEST {
-        let error = SyntaxError { at: LONGEST, expected: Expected::ShorterText };
-        return Ok(Reading { code: Vec::new(heap), program: Err(error) });
+        let error = SyntaxError {
+            at: LONGEST,
+            expected: Expected::ShorterText,
+        };
+        return Ok(Reading {
+            code: Vec::new(heap),
+            program: Err(error),
+        });
     }
     let mut code = vec![in heap; 0u32; 16 * n + 160]?;
     let mut tokens = vec![in heap; 0u32; 3 * n + 6]?;

@@ -21,6 +21,7 @@ pub enum Ran {
 
 /// The words that are lent at least: these, and 16 for each byte of the text.
 const FLOOR: usize = 65536;
+
 const WORDS_A_BYTE: usize = 16;
 
 /// The words that the code of a text may take beside 16 for each byte.

@@ -1,8 +1,8 @@
 //! A text's tokens, one a line.
+use front::Place;
 use front::after;
 use front::visible::Visible;
 use front::visible::VisibleDisplay;
-use front::Place;
 use std::io;
 
 /// What a token is, by its code.
@@ -68,11 +68,22 @@ fn go_on(text: &[u8], from: usize, to: usize, place: Place) -> Place {
     p
 }
 
-fn show_token(rt: &LibcRuntime, text: &[u8], place: Place, code: u32, start: usize, len: usize) -> io::Result<()> {
+fn show_token(
+    rt: &LibcRuntime,
+    text: &[u8],
+    place: Place,
+    code: u32,
+    start: usize,
+    len: usize,
+) -> io::Result<()> {
     let line = place.line;
     let column = place.column;
     let kind = kind_name(code);
-    let joined = if code >= 8 && code < 16 { "joined " } else { "" };
+    let joined = if code >= 8 && code < 16 {
+        "joined "
+    } else {
+        ""
+    };
     let sign = sign_text(code);
     let shown = Visible(bytes_of(text, code, start, len));
     println!(rt, "{line}:{column} {joined}{kind} {sign}{shown}")
@@ -90,7 +101,14 @@ pub fn show_tokens(rt: &LibcRuntime, text: &[u8], words: &[u32], n: usize) -> io
         let start = words[token + 1] as usize;
         place = go_on(text, at, start, place);
         at = start;
-        show_token(rt, text, place, words[token], start, words[token + 2] as usize)?;
+        show_token(
+            rt,
+            text,
+            place,
+            words[token],
+            start,
+            words[token + 2] as usize,
+        )?;
         token += 3;
     }
     Ok(())

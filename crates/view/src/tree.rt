@@ -17,7 +17,11 @@ impl<'a> Code<'a> {
         requires { ⌜ field < 8 ⌝ }
     {
         let at = a as usize + field;
-        if at < self.words.len() { self.words[at] } else { 0 }
+        if at < self.words.len() {
+            self.words[at]
+        } else {
+            0
+        }
     }
 
     /// The bytes of the text whose start and number stand in two words.
@@ -50,7 +54,13 @@ fn named(rt: &LibcRuntime, at: usize, name: &str, bytes: &[u8]) -> io::Result<()
 }
 
 /// A list of commands whose first cell is at `first`, `left` levels above the deepest.
-pub fn show_list(rt: &LibcRuntime, code: Code<'_>, first: u32, at: usize, left: u32) -> io::Result<()> {
+pub fn show_list(
+    rt: &LibcRuntime,
+    code: Code<'_>,
+    first: u32,
+    at: usize,
+    left: u32,
+) -> io::Result<()> {
     if left == 0 {
         return heading(rt, at, "...");
     }
@@ -93,7 +103,13 @@ fn show_and_or(rt: &LibcRuntime, code: Code<'_>, last: u32, at: usize, left: u32
     Ok(())
 }
 
-fn show_pipeline(rt: &LibcRuntime, code: Code<'_>, first: u32, at: usize, left: u32) -> io::Result<()>
+fn show_pipeline(
+    rt: &LibcRuntime,
+    code: Code<'_>,
+    first: u32,
+    at: usize,
+    left: u32,
+) -> io::Result<()>
     requires { ⌜ 0 < left ⌝ }
 {
     let mut cell = first;
@@ -137,7 +153,14 @@ fn show_simple(rt: &LibcRuntime, code: Code<'_>, a: u32, at: usize, left: u32) -
     show_redirects(rt, code, code.word(a, 4), at.saturating_add(1), left)
 }
 
-fn show_enclosed(rt: &LibcRuntime, code: Code<'_>, a: u32, at: usize, left: u32, name: &str) -> io::Result<()>
+fn show_enclosed(
+    rt: &LibcRuntime,
+    code: Code<'_>,
+    a: u32,
+    at: usize,
+    left: u32,
+    name: &str,
+) -> io::Result<()>
     requires { ⌜ 0 < left ⌝ }
 {
     heading(rt, at, name)?;
@@ -152,12 +175,19 @@ fn show_if(rt: &LibcRuntime, code: Code<'_>, a: u32, at: usize, left: u32) -> io
     show_list(rt, code, code.word(a, 2), at.saturating_add(1), left - 1)?;
     heading(rt, at, "then")?;
     show_list(rt, code, code.word(a, 3), at.saturating_add(1), left - 1)?;
-    if code.word(a, 4) != 0 {
+    let else_cell = code.word(a, 4);
+    if else_cell != 0 {
         heading(rt, at, "else")?;
-        show_list(rt, code, code.word(a, 5), at.saturating_add(1), left - 1)?;
+        show_list(
+            rt,
+            code,
+            code.word(else_cell, 0),
+            at.saturating_add(1),
+            left - 1,
+        )?;
     }
     heading(rt, at, "fi")?;
-    show_redirects(rt, code, code.word(a, 6), at.saturating_add(1), left)
+    show_redirects(rt, code, code.word(a, 5), at.saturating_add(1), left)
 }
 
 fn show_while(rt: &LibcRuntime, code: Code<'_>, a: u32, at: usize, left: u32) -> io::Result<()>
@@ -208,7 +238,13 @@ fn show_arms(rt: &LibcRuntime, code: Code<'_>, first: u32, at: usize, left: u32)
     Ok(())
 }
 
-fn show_assignments(rt: &LibcRuntime, code: Code<'_>, first: u32, at: usize, left: u32) -> io::Result<()>
+fn show_assignments(
+    rt: &LibcRuntime,
+    code: Code<'_>,
+    first: u32,
+    at: usize,
+    left: u32,
+) -> io::Result<()>
     requires { ⌜ 0 < left ⌝ }
 {
     let mut cell = first;
@@ -223,7 +259,13 @@ fn show_assignments(rt: &LibcRuntime, code: Code<'_>, first: u32, at: usize, lef
     Ok(())
 }
 
-fn show_redirects(rt: &LibcRuntime, code: Code<'_>, first: u32, at: usize, left: u32) -> io::Result<()>
+fn show_redirects(
+    rt: &LibcRuntime,
+    code: Code<'_>,
+    first: u32,
+    at: usize,
+    left: u32,
+) -> io::Result<()>
     requires { ⌜ 0 < left ⌝ }
 {
     let mut cell = first;

@@ -1,9 +1,9 @@
 //! Runs a text of commands: its paper goes to standard output, how it came out to standard error.
 use front::Outcome;
 use front::OutcomeDisplay;
-use front::faults::read_text;
 use front::faults::Fault;
 use front::faults::FaultDisplay;
+use front::faults::read_text;
 use front::files::fill;
 use front::on_paper;
 use front::options::Options;
@@ -84,7 +84,11 @@ fn name_of(source: &Source) -> &str {
 fn explain(rt: &LibcRuntime, source: &Source, text: &[u8]) -> Result<(), AnyError> {
     let reading = read_text(rt.alloc(), text)?;
     if let Err(error) = reading.program {
-        let fault = Fault { name: name_of(source), text, error };
+        let fault = Fault {
+            name: name_of(source),
+            text,
+            error,
+        };
         eprintln!(rt, "{fault}")?;
     }
     Ok(())

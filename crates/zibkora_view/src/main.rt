@@ -1,7 +1,7 @@
 //! Shows what a text is: its tokens, its tree and its stage, or where reading it stopped.
-use front::faults::read_text;
 use front::faults::Fault;
 use front::faults::FaultDisplay;
+use front::faults::read_text;
 use front::files::fill;
 use front::options::Options;
 use front::options::Source;
@@ -12,11 +12,12 @@ use std::error::AnyError;
 use std::fs;
 use std::io;
 use view::tokens::show_tokens;
-use view::tree::show_list;
 use view::tree::Code;
+use view::tree::show_list;
 
 /// The longest text that is read, and a byte more.
 const LONGEST: usize = 16384;
+
 const TEXT_BYTES: usize = 16385;
 
 const HELP: &str = "usage: zibkora_view (FILE | -c TEXT)
@@ -73,7 +74,16 @@ fn show(rt: &LibcRuntime, name: &str, text: &[u8]) -> Result<bool, AnyError> {
     match reading.program {
         Ok(program) => {
             println!(rt, "tree")?;
-            show_list(rt, Code { text, words: &reading.code }, program.root, 1, 33)?;
+            show_list(
+                rt,
+                Code {
+                    text,
+                    words: &reading.code,
+                },
+                program.root,
+                1,
+                33,
+            )?;
             let stage = program.stage;
             println!(rt, "stage {stage}")?;
             Ok(true)
@@ -113,5 +123,9 @@ fn main(rt: LibcRuntime) -> Result<(), AnyError> {
     let Some(source) = &o.source else {
         return Err("no text".into());
     };
-    if view_source(&rt, source)? { Ok(()) } else { Err("no list of commands".into()) }
+    if view_source(&rt, source)? {
+        Ok(())
+    } else {
+        Err("no list of commands".into())
+    }
 }
