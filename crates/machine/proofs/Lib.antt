@@ -1,0 +1,14 @@
+pub mod Pushes
+pub mod Trees
+pub mod Places
+pub mod Steps
+pub mod Texts
+pub mod Expand
+pub mod Commands
+pub mod Numbers
+pub mod Ranges
+pub mod Begin
+pub mod Decimals
+pub mod Printing
+pub mod Moves
+pub mod Rooms
