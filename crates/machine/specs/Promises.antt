@@ -167,7 +167,7 @@ pub record Printed (text code : List ℕ) (number : ℕ → ℕ) (live : List Bo
   pub inside : place < length o
   pub paper : o′ ≡ set o place byte
 
--- a byte would be printed, and the paper has no place for it
+-- a byte would be printed, and there is no place left for it on the paper
 pub record Filled (number : ℕ → ℕ) (o : List ℕ) (place : ℕ) (p : Process′) (r : Rest) (c : Control) (k : List Frame) : Type 0 where
   pub w′ : Process
   pub byte : ℕ
