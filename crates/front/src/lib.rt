@@ -7,6 +7,7 @@ ghost use Rattle.front.specs.Places.{after-byte, place-after};
 pub mod faults;
 pub mod files;
 pub mod options;
+pub mod source;
 pub mod visible;
 
 use pipes::Ran;

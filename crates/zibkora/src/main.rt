@@ -9,12 +9,12 @@ use front::on_paper;
 use front::options::Options;
 use front::options::Source;
 use front::options::Usage;
+use front::source::name_of;
+use front::source::options_of;
+use front::source::text_of;
 use pipes::Ran;
 use pipes::run;
-use std::env;
 use std::error::AnyError;
-use std::fs;
-use std::io;
 use std::io::Write;
 
 /// Buffers, 4 MiB in all: the text and a byte more, the input and a byte more, the paper, and words of four bytes.
@@ -48,37 +48,6 @@ The last line on standard error says how the run came out, and is one of
   few         the words lent are fewer than 65536 and 16 for each byte of the text
 The exit status is 0 only for `ended 0`.
 ";
-
-fn options(rt: &LibcRuntime) -> Result<Result<Options, Usage>, AnyError> {
-    let mut o = Options::new();
-    for word in env::args(rt)? {
-        match o.take(word) {
-            Ok(more) => o = more,
-            Err(u) => return Ok(Err(u)),
-        }
-    }
-    Ok(o.done())
-}
-
-/// The text's bytes; its name for messages.
-fn text_of(rt: &LibcRuntime, source: &Source, buffer: &mut [u8]) -> io::Result<usize> {
-    match source {
-        Source::File(name) => fill(&mut fs::open(rt, name.as_str())?, buffer),
-        Source::Text(text) => {
-            let n = text.len().min(buffer.len());
-            buffer[0..n].copy_from_slice(&text.as_bytes()[0..n]);
-            Ok(n)
-        }
-    }
-}
-
-/// The name of a text in messages.
-fn name_of(source: &Source) -> &str {
-    match source {
-        Source::File(name) => name.as_str(),
-        Source::Text(_) => "-c",
-    }
-}
 
 /// Where reading the text stopped, on standard error.
 fn explain(rt: &LibcRuntime, source: &Source, text: &[u8]) -> Result<(), AnyError> {
@@ -136,7 +105,7 @@ fn run_text(rt: &LibcRuntime, o: &Options, source: &Source) -> Result<Ran, AnyEr
 }
 
 fn main(rt: LibcRuntime) -> Result<(), AnyError> {
-    let o = match options(&rt)? {
+    let o = match options_of(&rt)? {
         Ok(o) => o,
         Err(Usage::Help) => {
             print!(rt, "{HELP}")?;

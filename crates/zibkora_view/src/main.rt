@@ -2,15 +2,13 @@
 use front::faults::Fault;
 use front::faults::FaultDisplay;
 use front::faults::read_text;
-use front::files::fill;
-use front::options::Options;
 use front::options::Source;
 use front::options::Usage;
+use front::source::name_of;
+use front::source::options_of;
+use front::source::text_of;
 use lexer::tokenize;
-use std::env;
 use std::error::AnyError;
-use std::fs;
-use std::io;
 use view::tokens::show_tokens;
 use view::tree::Code;
 use view::tree::show_list;
@@ -26,35 +24,6 @@ Shows what a text of commands is: its tokens, one a line, with their places as l
 indented; its stage. For a text that is no list of commands it says where reading stopped and what was
 expected there, and the exit status is 1.
 ";
-
-fn options(rt: &LibcRuntime) -> Result<Result<Options, Usage>, AnyError> {
-    let mut o = Options::new();
-    for word in env::args(rt)? {
-        match o.take(word) {
-            Ok(more) => o = more,
-            Err(u) => return Ok(Err(u)),
-        }
-    }
-    Ok(o.done())
-}
-
-fn name_of(source: &Source) -> &str {
-    match source {
-        Source::File(name) => name.as_str(),
-        Source::Text(_) => "-c",
-    }
-}
-
-fn text_of(rt: &LibcRuntime, source: &Source, buffer: &mut [u8]) -> io::Result<usize> {
-    match source {
-        Source::File(name) => fill(&mut fs::open(rt, name.as_str())?, buffer),
-        Source::Text(text) => {
-            let n = text.len().min(buffer.len());
-            buffer[0..n].copy_from_slice(&text.as_bytes()[0..n]);
-            Ok(n)
-        }
-    }
-}
 
 /// The tokens of a text that is not too long.
 fn show_all_tokens(rt: &LibcRuntime, text: &[u8]) -> Result<(), AnyError> {
@@ -109,7 +78,7 @@ fn view_source(rt: &LibcRuntime, source: &Source) -> Result<bool, AnyError> {
 }
 
 fn main(rt: LibcRuntime) -> Result<(), AnyError> {
-    let o = match options(&rt)? {
+    let o = match options_of(&rt)? {
         Ok(o) => o,
         Err(Usage::Help) => {
             print!(rt, "{HELP}")?;
