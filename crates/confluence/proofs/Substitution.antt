@@ -9,6 +9,7 @@ use Prim.Native.Nat.{◌<◌, ◌≤◌, suc, ℕ}
 use native.Mathlib.Omega.{arith}
 use lib.ListN.{length}
 use lib.Dec.{ltb}
+use Rattle.std.proofs.lemmas.Bool.{ltb-true, ltb-false}
 use Rattle.syntax.specs.Base.{nth, pick}
 use Rattle.syntax.specs.Tree.{CommandList, group, no_redirects}
 use Rattle.meaning.specs.System.{at_capture, at_list, at_words, exit_status, Expansion, find_process, Handle, host_input, pipe_read, pipe_write, Process, Purpose, replace, System, with_processes}
@@ -383,15 +384,15 @@ exit_drains r k b1 s t y al v vs st aa kn ov o1 = record {
 
     ab : (q : ℕ) → v.pid < q → (q ≡ r) ⊎ (q ≡ r → ⊥) → (z : Bool) → ltb q r ≡ z → find_process t.processes q ≡ none
     ab q h (inl e) z f = ap (λ i. find_process t.processes i) e ∙ ov.3
-    ab q h (inr e) true f = o1.finds q e ∙ gap q h (grind arith) (find_process s.processes q) refl
-    ab q h (inr e) false f = o1.finds q e ∙ al.above q (lt q r e (grind arith))
+    ab q h (inr e) true f = o1.finds q e ∙ gap q h (ltb-true q r f) (find_process s.processes q) refl
+    ab q h (inr e) false f = o1.finds q e ∙ al.above q (lt q r e (ltb-false q r f))
       where
         lt : (a b : ℕ) → (a ≡ b → ⊥) → b ≤ a → b < a
         lt a b n l = by2 (ltb b a) refl
           where
             by2 : (z : Bool) → ltb b a ≡ z → b < a
-            by2 true p = grind arith
-            by2 false p = absurd (n (grind arith))
+            by2 true p = ltb-true b a p
+            by2 false p = absurd (n (omega (arith, ltb-false b a p)))
 
 -- those below go on capturing
 pub drain_keep : (s t : System) (v : Capture) (vs : List Capture) (total : List ℕ) → Drain s v vs total → SinkBefore v.sink v.pipe
