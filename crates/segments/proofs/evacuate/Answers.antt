@@ -8,7 +8,7 @@ use Rattle.segments.proofs.evacuate.Goals as goal
 
 pub loop-k-init : goal.loop-k-init
 loop-k-init c =
-    (c.requires.0, refl, λ i z h. absurd (omega arith), c.requires.1, omega (arith, spread_none (segs c.args.w.now c.args.n)), λ i h. refl, λ i h. absurd (omega arith), λ i h. refl)
+    (c.requires.good_2, refl, λ i z h. absurd (omega arith), c.requires.within, omega (arith, spread_none (segs c.args.w.now c.args.n)), λ i h. refl, λ i h. absurd (omega arith), λ i h. refl)
 
 pub overflow_sub-at : goal.overflow_sub-at
 overflow_sub-at c =
@@ -16,7 +16,7 @@ overflow_sub-at c =
     omega (
       arith,
       turn_room c.loop-k.w c.args.n c.args.lo c.args.hi c.args.to c.loop-k.k c.loop-k.at (c.read-len.result + c.read-len.result / 4)
-          (segs c.args.w.now c.args.n) i.0 i.1 c.loop-k-test.true i.2 i.3 i.4 c.requires.2 c.requires.3 (rw c.read-len.ensures),
+          (segs c.args.w.now c.args.n) i.0 i.1 c.loop-k-test.true i.2 i.3 i.4 c.requires.fact c.requires.n_bound (rw c.read-len.ensures),
     )
 
 pub relocate-requires : goal.relocate-requires
@@ -25,15 +25,15 @@ relocate-requires c =
     let r = c.read-len.result + c.read-len.result / 4 in
     let xs = segs c.args.w.now c.args.n in
     let t = turn_room c.loop-k.w c.args.n c.args.lo c.args.hi c.args.to c.loop-k.k c.loop-k.at r
-    xs i.0 i.1 c.loop-k-test.true i.2 i.3 i.4 c.requires.2 c.requires.3 (rw c.read-len.ensures) in (
-      i.0,
-      c.loop-k-test.true,
-      omega arith,
-      omega (arith, t),
-      omega (arith, t, i.4),
-      turn_free c.loop-k.w c.args.n c.args.lo c.args.hi c.args.to c.loop-k.k c.loop-k.at r
-          xs i.0 i.1 c.loop-k-test.true i.2 i.3 i.4 c.requires.2 c.requires.3 (rw c.read-len.ensures),
-    )
+    xs i.0 i.1 c.loop-k-test.true i.2 i.3 i.4 c.requires.fact c.requires.n_bound (rw c.read-len.ensures) in (record {
+      good = i.0;
+      i_lt_n = c.loop-k-test.true;
+      i_bound = omega arith;
+      n_bound = omega (arith, t);
+      r_in_bounds = omega (arith, t, i.4);
+      free = turn_free c.loop-k.w c.args.n c.args.lo c.args.hi c.args.to c.loop-k.k c.loop-k.at r
+          xs i.0 i.1 c.loop-k-test.true i.2 i.3 i.4 c.requires.fact c.requires.n_bound (rw c.read-len.ensures);
+    })
 
 pub loop-k-preserved : goal.loop-k-preserved
 loop-k-preserved c =
@@ -49,11 +49,11 @@ loop-k-preserved c =
     let q : r ≡ size w k + size w k / 4 = rw c.read-len.ensures in (
       m.good,
       m.same ∙ i.1,
-      turn_early w c.args.n c.args.lo c.args.hi c.args.to k a r xs i.0 i.1 h i.2 i.3 i.4 c.requires.2 c.requires.3 q c.relocate.new.w m,
-      turn_late w c.args.n c.args.lo c.args.hi c.args.to k a r xs i.0 i.1 h i.2 i.3 i.4 c.requires.2 c.requires.3 q c.relocate.new.w m,
-      turn_next w c.args.n c.args.lo c.args.hi c.args.to k a r xs i.0 i.1 h i.2 i.3 i.4 c.requires.2 c.requires.3 q,
+      turn_early w c.args.n c.args.lo c.args.hi c.args.to k a r xs i.0 i.1 h i.2 i.3 i.4 c.requires.fact c.requires.n_bound q c.relocate.new.w m,
+      turn_late w c.args.n c.args.lo c.args.hi c.args.to k a r xs i.0 i.1 h i.2 i.3 i.4 c.requires.fact c.requires.n_bound q c.relocate.new.w m,
+      turn_next w c.args.n c.args.lo c.args.hi c.args.to k a r xs i.0 i.1 h i.2 i.3 i.4 c.requires.fact c.requires.n_bound q,
       λ j jn. m.sizes j jn ∙ i.5 j jn,
-      turn_rooms w c.args.n c.args.lo c.args.hi c.args.to k a r xs i.0 i.1 h i.2 i.3 i.4 c.requires.2 c.requires.3 q c.relocate.new.w m v i.5 i.6,
+      turn_rooms w c.args.n c.args.lo c.args.hi c.args.to k a r xs i.0 i.1 h i.2 i.3 i.4 c.requires.fact c.requires.n_bound q c.relocate.new.w m v i.5 i.6,
       λ j jn. m.used j jn ∙ i.7 j jn,
     )
 

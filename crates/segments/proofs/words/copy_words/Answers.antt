@@ -11,13 +11,13 @@ loop-j-preserved c =
     let b : c.args.at + j < length w = omega arith in
     let i = c.loop-j.invariant in
     let t = c.loop-j-test.true in (
-      copy_front w w' _ _ _ j c.requires.0 t a b i.0 i.1 i.2,
-      copy_mid w w' _ _ _ j c.requires.0 t a b i.0 i.1 i.2,
-      copy_back w w' _ _ _ j c.requires.0 t a b i.0 i.1 i.2,
+      copy_front w w' _ _ _ j c.requires.fact t a b i.0 i.1 i.2,
+      copy_mid w w' _ _ _ j c.requires.fact t a b i.0 i.1 i.2,
+      copy_back w w' _ _ _ j c.requires.fact t a b i.0 i.1 i.2,
     )
 
 pub returns : goal.returns
 returns c =
     let i = c.loop-j.invariant in
     let e : c.loop-j.j ≡ c.args.len = omega arith in
-    copy_all c.args.w.now c.loop-j.w c.args.at c.args.to c.args.len c.requires.2 c.loop-j.auto.w i.0 (rw e at i.1) (rw e at i.2)
+    copy_all c.args.w.now c.loop-j.w c.args.at c.args.to c.args.len c.requires.len_in_bounds_2 c.loop-j.auto.w i.0 (rw e at i.1) (rw e at i.2)
