@@ -1,4 +1,6 @@
 //! Runs a text of commands: its paper goes to standard output, how it came out to standard error.
+#![tactic(auto)]
+
 use anyhow::anyhow;
 use front::faults::{Fault, read_text};
 use front::files::fill;
@@ -7,6 +9,7 @@ use front::source::{name_of, options_of, text_of};
 use front::{Outcome, on_paper};
 use pipes::{Ran, run};
 use std::io::Write;
+use std::process::ExitCode;
 
 /// Buffers, 4 MiB in all: the text and a byte more, the input and a byte more, the paper, and words of four bytes.
 const TEXT_BYTES: usize = 16385;
@@ -95,32 +98,41 @@ fn run_text(rt: &HostRuntime, o: &Options, source: &Source) -> anyhow::Result<Ra
     Ok(r)
 }
 
-fn main(rt: HostRuntime) -> anyhow::Result<()> {
-    let o = match options_of(&rt)? {
+/// Runs the text that the command line names; whether it came to `ended 0`.
+fn answer(rt: &HostRuntime) -> anyhow::Result<bool> {
+    let o = match options_of(rt)? {
         Ok(o) => o,
         Err(Usage::Help) => {
             print!(rt; "{HELP}")?;
-            return Ok(());
+            return Ok(true);
         }
         Err(Usage::Wrong(why)) => {
             eprintln!(rt; "zibkora: {why}; --help says more")?;
-            return Err(why.into());
+            return Ok(false);
         }
     };
     let Some(source) = &o.source else {
-        return Err(anyhow!("no text"));
+        return Ok(false);
     };
-    let r = match run_text(&rt, &o, source) {
+    let r = match run_text(rt, &o, source) {
         Ok(r) => r,
         Err(e) => {
             eprintln!(rt; "zibkora: {e}")?;
-            return Err(e);
+            return Ok(false);
         }
     };
     let out = Outcome(r);
     eprintln!(rt; "{out}")?;
     match r {
-        Ran::Ended(_, 0) => Ok(()),
-        _ => Err(anyhow!("not ended 0")),
+        Ran::Ended(_, 0) => Ok(true),
+        _ => Ok(false),
+    }
+}
+
+/// The last line on standard error is how the run came out, so an error that is returned is not printed behind it.
+fn main(rt: HostRuntime) -> ExitCode {
+    match answer(&rt) {
+        Ok(true) => ExitCode::SUCCESS,
+        _ => ExitCode::FAILURE,
     }
 }

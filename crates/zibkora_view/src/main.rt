@@ -1,9 +1,11 @@
 //! Shows what a text is: its tokens, its tree and its stage, or where reading it stopped.
-use anyhow::anyhow;
+#![tactic(auto)]
+
 use front::faults::{Fault, read_text};
 use front::options::{Source, Usage};
 use front::source::{name_of, options_of, text_of};
 use lexer::tokenize;
+use std::process::ExitCode;
 use view::tokens::show_tokens;
 use view::tree::{Code, show_list};
 
@@ -71,24 +73,28 @@ fn view_source(rt: &HostRuntime, source: &Source) -> anyhow::Result<bool> {
     show(rt, name_of(source), &text[0..n])
 }
 
-fn main(rt: HostRuntime) -> anyhow::Result<()> {
-    let o = match options_of(&rt)? {
+/// Shows the text that the command line names; whether it is a list of commands.
+fn answer(rt: &HostRuntime) -> anyhow::Result<bool> {
+    let o = match options_of(rt)? {
         Ok(o) => o,
         Err(Usage::Help) => {
             print!(rt; "{HELP}")?;
-            return Ok(());
+            return Ok(true);
         }
         Err(Usage::Wrong(why)) => {
             eprintln!(rt; "zibkora_view: {why}; --help says more")?;
-            return Err(why.into());
+            return Ok(false);
         }
     };
     let Some(source) = &o.source else {
-        return Err(anyhow!("no text"));
+        return Ok(false);
     };
-    if view_source(&rt, source)? {
-        Ok(())
-    } else {
-        Err(anyhow!("no list of commands"))
+    view_source(rt, source)
+}
+
+fn main(rt: HostRuntime) -> ExitCode {
+    match answer(&rt) {
+        Ok(true) => ExitCode::SUCCESS,
+        _ => ExitCode::FAILURE,
     }
 }
