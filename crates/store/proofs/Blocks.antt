@@ -1,8 +1,8 @@
 -- Numbers that go out of use while the last takes their place, and what a loop over a block of numbers has done so far.
-use Rattle.std.proofs.Common.{◌≡◌, ℕ, zero, suc, ◌+◌, ◌-◌, ◌*◌, ◌/◌, ◌<◌, ◌≤◌, Bool, true, false, cond, ◌&&◌, List, [], get_or, set, sym, refl, ap, ◌∙◌, ap₂, ⊎_elim, add-one, arith}
+use Rattle.std.proofs.Common.{◌≡◌, ℕ, suc, ◌+◌, ◌-◌, ◌*◌, ◌<◌, ◌≤◌, Bool, true, false, cond, ◌&&◌, List, [], get_or, set, sym, refl, ap, ◌∙◌, ap₂, ⊎_elim, add-one, arith}
 use Rattle.std.proofs.lemmas.List.{set-set}
 use Rattle.std.proofs.lemmas.Bool.{and_from}
-use Rattle.segments.specs.Layout.{field, mark}
+use Rattle.segments.specs.Layout.{mark}
 use Rattle.store.specs.declared.Store.{Store}
 use Rattle.store.specs.Sums.{extent}
 use Rattle.store.specs.Dense.{Dense, marked, replaced, replaced_block}

@@ -1,11 +1,11 @@
 -- What a refusal tells of the words lent.
-use Rattle.std.proofs.Common.{◌≡◌, ℕ, ◌+◌, ◌*◌, ◌/◌, ◌<◌, ◌≤◌, Bool, true, false, cond, ◌||◌, ltb, List, get_or, Some, None, Ok, Err, Option, sym, refl, ◌∙◌, arith}
+use Rattle.std.proofs.Common.{◌≡◌, ℕ, ◌+◌, ◌*◌, ◌/◌, ◌<◌, Bool, true, false, cond, ltb, List, get_or, Some, None, Err, refl, arith}
 use Rattle.std.proofs.lemmas.Bool.{leb-false, or_parts}
 use Rattle.std.specs.List.{prefix_len}
 use Rattle.segments.specs.Layout.{need}
 use Rattle.store.specs.declared.Refusal.TheVariants.{NotInUse, NoRoom}
 use Rattle.store.specs.Sums.{extent, asked, enough, told}
-use Rattle.store.specs.Dense.{Dense, in_use_count, offered, offered_block, FewForWords, FewForFresh, FewForBlock}
+use Rattle.store.specs.Dense.{FewForWords, FewForFresh, FewForBlock}
 use Rattle.store.proofs.Density.{dense_count}
 
 -- n words in the lists, e numbers, and a list that is to have m words: so few were lent

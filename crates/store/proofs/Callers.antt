@@ -1,5 +1,5 @@
 -- What callers may use of a store that is in order.
-use Rattle.std.proofs.Common.{◌≡◌, ℕ, ◌+◌, ◌*◌, ◌<◌, ◌≤◌, true, false, [], length, get_or, arith}
+use Rattle.std.proofs.Common.{◌≡◌, ℕ, ◌*◌, ◌<◌, ◌≤◌, true, false, [], length, get_or, arith}
 use Rattle.store.specs.declared.Store.{Store}
 use Rattle.store.specs.Sums.{extent}
 use Rattle.store.specs.Held.{Held, model, bounds}

@@ -1,9 +1,8 @@
 -- Words that are put behind a list, once there is room for them.
-use Rattle.std.proofs.Common.{◌≡◌, ℕ, ◌+◌, ◌-◌, ◌*◌, ◌/◌, ◌<◌, ◌≤◌, Bool, false, ◌≢◌, ◌⊎◌, List, [], ◌∷◌, ◌++◌, length, get_or, set, sym, refl, ap, ◌∙◌, ap₂, inl, inr, ⊎_elim, arith}
+use Rattle.std.proofs.Common.{◌≡◌, ℕ, ◌+◌, ◌*◌, ◌/◌, ◌<◌, ◌≤◌, Bool, false, ◌≢◌, List, [], ◌++◌, length, get_or, set, ap, ◌∙◌, ap₂, arith}
 use Rattle.std.proofs.lemmas.List.{length-append}
 use Rattle.store.specs.declared.Store.{Store}
-use Rattle.segments.specs.Layout.{field, size, room, mark, segs, marks, Changed, tense, strain}
-use Rattle.store.specs.Sums.{asked}
+use Rattle.segments.specs.Layout.{size, mark, segs, Changed, strain}
 use Rattle.store.specs.Held.{lists, lives, Inv, Sound, Shifted, Reserved, pressed}
 use Rattle.segments.proofs.Table.{marks_same}
 use Rattle.store.proofs.Totals.{lists_at, lists_by, lives_by}

@@ -1,11 +1,10 @@
 -- Numbers that come into use and go out of it, and lists that change places.
-use Rattle.std.proofs.Common.{◌≡◌, ℕ, zero, suc, ◌+◌, ◌-◌, ◌*◌, ◌/◌, ◌<◌, ◌≤◌, min, Bool, true, false, cond, ◌||◌, eqb, ◌≢◌, ◌⊎◌, List, [], ◌∷◌, ◌++◌, length, get_or, set, replicate, sym, refl, ap, ◌∙◌, ap₂, inl, inr, ⊎_elim, arith}
+use Rattle.std.proofs.Common.{◌≡◌, ℕ, zero, suc, ◌+◌, ◌-◌, ◌*◌, ◌/◌, ◌<◌, ◌≤◌, min, Bool, true, false, eqb, ◌≢◌, List, [], ◌∷◌, ◌++◌, length, get_or, set, replicate, sym, refl, ap, ◌∙◌, ap₂, inr, ⊎_elim, arith}
 use Rattle.std.specs.List.{prefix_len}
-use Rattle.std.proofs.lemmas.List.{get_or-set_same, get_or-set_other, length-set, set-append_left, set-set, set-get_or}
+use Rattle.std.proofs.lemmas.List.{get_or-set_other, length-set, set-append_left}
 use Rattle.std.proofs.lemmas.List.Sums.{sum_by_push}
 use Rattle.std.proofs.lemmas.Bool.{cases_eq, cases_lt, eq-eqb, ne_eqb, false≢true}
-use Rattle.store.specs.declared.Store.{Store}
-use Rattle.segments.specs.Layout.{field, start, size, room, mark, seg, segs, marks, Good, Within, Exchanged, Opened, Marked, Retired, need, tense, upto, strain}
+use Rattle.segments.specs.Layout.{size, room, mark, segs, Exchanged, Opened, Marked, Retired, need, tense, strain}
 use Rattle.store.specs.Held.{lists, lives, Inv}
 use Rattle.segments.proofs.Table.{segs_at, length_segs, segs_past, marks_same, marks_at, marks_past}
 use Rattle.segments.proofs.Moves.{need_set}

@@ -1,16 +1,16 @@
 -- What keeps a store in order.
-use Rattle.std.proofs.Common.{◌≡◌, ℕ, zero, suc, ◌+◌, ◌-◌, ◌*◌, ◌/◌, ◌<◌, ◌≤◌, Bool, true, false, cond, ◌||◌, eqb, leb, ◌≢◌, ◌⊎◌, List, [], ◌∷◌, ◌++◌, length, get_or, take, set, sym, refl, ap, ◌∙◌, ap₂, inl, inr, ⊎_elim, arith, w64, Fits}
-use Rattle.std.proofs.lemmas.List.{get_or-set_same, get_or-set_other, set_past, set-get_or, get_or_past}
+use Rattle.std.proofs.Common.{◌≡◌, ℕ, ◌+◌, ◌-◌, ◌*◌, ◌/◌, ◌<◌, ◌≤◌, Bool, true, false, ◌≢◌, ◌⊎◌, List, [], length, get_or, set, sym, ap, ◌∙◌, ap₂, inl, inr, ⊎_elim, arith, w64, Fits}
+use Rattle.std.proofs.lemmas.List.{get_or-set_same, get_or-set_other, set_past, set-get_or}
 use Rattle.std.proofs.lemmas.Bool.{cases_eq, cases_lt, le-leb, lt-leb, eqb-true, false≢true}
-use Rattle.segments.specs.Layout.{field, start, size, room, mark, seg, segs, marks, Good, Within, Free, Changed, Moved, Exchanged, Opened, Marked, need, spread, tense, upto, strain}
+use Rattle.segments.specs.Layout.{size, room, mark, segs, Good, Within, Changed, Moved, need, spread, tense, strain}
 use Rattle.store.specs.Sums.{extent, enough}
 use Rattle.store.specs.declared.Store.{Store}
 use Rattle.store.specs.Held.{lists, lives, Inv, Sound, Shifted}
-use Rattle.segments.proofs.Table.{segs_at, length_segs, marks_same, marks_at, segs_past}
+use Rattle.segments.proofs.Table.{length_segs, marks_same, marks_at, segs_past}
 use Rattle.segments.proofs.SegmentLaws.{len_is}
 use Rattle.segments.proofs.Moves.{need_set, need_at, spread_le}
-use Rattle.store.proofs.Totals.{lists_at, lists_set, lists_by, lives_by, lives_at, need_lists, dead_past, live_is, extent_lives}
-use Rattle.segments.proofs.Upto.{upto_same, upto_one, upto_at, upto_none, upto_le}
+use Rattle.store.proofs.Totals.{lists_at, lists_set, lives_by, lives_at, need_lists, dead_past, live_is, extent_lives}
+use Rattle.segments.proofs.Upto.{upto_one, upto_none, upto_le}
 
 pub tight_by : (w w' : List ℕ) (n : ℕ) → ((k : ℕ) → k < n → mark w' k ≡ mark w k) → (n ≡ 0) ⊎ (mark w (n - 1) ≡ 1) → (n ≡ 0) ⊎ (mark w' (n - 1) ≡ 1)
 tight_by w w' n f t = ⊎_elim (λ (z : n ≡ 0). inl z) (λ (z : n ≢ 0). ⊎_elim inl (λ (q : mark w (n - 1) ≡ 1). inr (f (n - 1) (omega arith) ∙ q)) t) (cases_eq n 0)

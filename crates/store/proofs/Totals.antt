@@ -1,9 +1,9 @@
 -- The lists of a store, and sums over them.
-use Rattle.std.proofs.Common.{◌≡◌, ℕ, zero, suc, ◌+◌, ◌-◌, ◌*◌, ◌/◌, ◌<◌, ◌≤◌, Bool, true, false, cond, ◌||◌, eqb, ltb, ◌≢◌, ◌⊎◌, List, [], ◌∷◌, ◌++◌, length, get_or, set, replicate, sym, refl, ap, ◌∙◌, ap₂, inl, inr, ⊎_elim, add-one, arith}
+use Rattle.std.proofs.Common.{◌≡◌, ℕ, zero, suc, ◌-◌, ◌<◌, ◌≤◌, Bool, true, false, ◌||◌, ltb, ◌≢◌, ◌⊎◌, List, [], ◌∷◌, ◌++◌, length, get_or, set, replicate, sym, refl, ap, ◌∙◌, ⊎_elim, arith}
 use Rattle.std.proofs.lemmas.List.{ext_get_or, length-append, length-replicate, length-set, get_or_append_left, get_or-append_right, get_or-replicate, get_or_past, set-append_left, set-get_or, set_past, get_or-set_same, get_or-set_other}
 use Rattle.std.proofs.lemmas.List.Sums.{sum_by-append, sum_by-cons}
-use Rattle.std.proofs.lemmas.Bool.{cases_eq, cases_lt, cases_Bool, or_from, or_left, or_right, lt-ltb, le-ltb, cond-true, cond-false, eq-eqb, ne_eqb, eqb-true}
-use Rattle.segments.specs.Layout.{field, size, mark, segs, marks, need, spread, upto}
+use Rattle.std.proofs.lemmas.Bool.{cases_eq, cases_lt, or_right, lt-ltb, eq-eqb, ne_eqb}
+use Rattle.segments.specs.Layout.{mark, segs, marks, need}
 use Rattle.store.specs.Sums.{extent}
 use Rattle.store.specs.Held.{lists, lives}
 use Rattle.segments.proofs.Table.{length_segs, length_marks, marks_at, marks_past, segs_past}

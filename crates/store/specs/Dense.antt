@@ -1,5 +1,5 @@
 -- Stores whose numbers in use are those below their count, and blocks of numbers in a row.
-use Rattle.std.specs.Prelude.{◌≡◌, ℕ, zero, suc, ◌+◌, ◌-◌, ◌*◌, ◌/◌, ◌<◌, ◌≤◌, Bool, true, false, cond, ◌||◌, ◌⊎◌, List, [], ◌∷◌, ◌++◌, length, replicate, Some, None, Ok, Err, Option, nat_lt, slice_index_or, slice_set}
+use Rattle.std.specs.Prelude.{◌≡◌, ℕ, zero, suc, ◌+◌, ◌-◌, ◌*◌, ◌/◌, ◌<◌, ◌≤◌, Bool, true, false, cond, ◌||◌, ◌⊎◌, List, [], ◌∷◌, ◌++◌, length, replicate, Some, None, Err, Option, nat_lt, slice_index_or, slice_set}
 use Rattle.std.specs.List.{prefix_len}
 use Rattle.segments.specs.Layout.{need}
 use Rattle.store.specs.declared.Refusal.TheVariants.{NoRoom}

@@ -1,7 +1,7 @@
 -- A store, by the lists of words that it stands for.
 use Rattle.std.specs.Prelude.{◌≡◌, ℕ, ◌+◌, ◌-◌, ◌*◌, ◌/◌, ◌<◌, ◌≤◌, Bool, false, ◌≢◌, ◌⊎◌, List, [], ◌++◌, length, replicate, slice_index_or}
 use Rattle.store.specs.declared.Store.{Store}
-use Rattle.segments.specs.Layout.{field, start, size, room, mark, segs, marks, Good, Within, need, tense, strain}
+use Rattle.segments.specs.Layout.{size, room, mark, segs, marks, Good, Within, need, tense, strain}
 use Rattle.store.specs.Sums.{asked}
 
 -- as many lists as a half has words; those behind the table are empty and not in use

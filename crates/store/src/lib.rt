@@ -8,6 +8,8 @@
 // A call that asks for words is refused exactly if the sum `enough` (specs/Sums.antt) passes half of the words lent: what all lists hold, and a
 // quarter more, eight for each number up to the last in use, what is asked for, and an eighth of the half. So after a move at least an eighth is
 // free, and moves are paid for by pushes: `spent` rises by at most 128 for each word that comes and 64 for each fresh list.
+#![tactic(auto)]
+
 ghost use Rattle.std.specs.Prelude.{◌≡◌, ℕ, ◌+◌, ◌-◌, ◌*◌, ◌/◌, ◌<◌, ◌≤◌, min, Bool, true, false, ◌&&◌, ◌||◌, ltb, ◌≢◌, ◌⊎◌, List, [], ◌∷◌, ◌++◌, length, get_or, take, drop, is_some, is_ok, if◌then◌else◌, Some, None, MatchOption, MatchResult, nat_le, nat_lt, slice_index, slice_index_or, slice_set};
 ghost use Rattle.std.specs.List.{prefix_len};
 ghost use Rattle.segments.specs.Layout.{field, start, size, room, mark, segs, need, tense, strain, spread};
@@ -354,7 +356,7 @@ impl Store<'_> {
     pub fn fresh(&mut self) -> Option<usize>
         requires { Held self.old }
         ensures held { Held self.new }
-        ensures same { bounds self.new ≡ (if is_some result then (bounds self.old).0, slice_set (bounds self.old).1 (prefix_len (λ b. b) (bounds self.old).1) true else bounds self.old) }
+        ensures same { bounds self.new ≡ (if is_some result then ((bounds self.old).0, slice_set (bounds self.old).1 (prefix_len (λ b. b) (bounds self.old).1) true) else bounds self.old) }
         ensures after { model self.new ≡ model self.old }
         ensures says { result ≡ (if ltb (prefix_len (λ b. b) (bounds self.old).1) (extent (bounds self.old).1) || enough (bounds self.old) (model self.old) 8 then Some (prefix_len (λ b. b) (bounds self.old).1) else None) }
         ensures dense { Dense (bounds self.old).1 → Dense (bounds self.new).1 }
@@ -379,7 +381,7 @@ impl Store<'_> {
     pub fn fresh_block(&mut self, k: usize) -> Option<usize>
         requires { Held self.old }
         ensures held { Held self.new }
-        ensures same { bounds self.new ≡ (if is_some result then (bounds self.old).0, marked (bounds self.old).1 (extent (bounds self.old).1) k true else bounds self.old) }
+        ensures same { bounds self.new ≡ (if is_some result then ((bounds self.old).0, marked (bounds self.old).1 (extent (bounds self.old).1) k true) else bounds self.old) }
         ensures after { model self.new ≡ model self.old }
         ensures says { result ≡ offered_block (bounds self.old) (model self.old) k }
         ensures dense { Dense (bounds self.old).1 → Dense (bounds self.new).1 }
@@ -454,9 +456,9 @@ impl Store<'_> {
     pub fn remove(&mut self, i: usize) -> Option<usize>
         requires { Held self.old }
         ensures held { Held self.new }
-        ensures same { bounds self.new ≡ (if get_or (bounds self.old).1 i false then (bounds self.old).0, slice_set (bounds self.old).1 (extent (bounds self.old).1 - 1) false else bounds self.old) }
-        ensures after { model self.new ≡ (if get_or (bounds self.old).1 i false then replaced (model self.old) i (extent (bounds self.old).1 - 1) else model self.old) }
-        ensures says { result ≡ (if get_or (bounds self.old).1 i false && nat_lt (i + 1) (extent (bounds self.old).1) then Some (extent (bounds self.old).1 - 1) else None) }
+        ensures same { bounds self.new ≡ (if slice_index_or (bounds self.old).1 i false then ((bounds self.old).0, slice_set (bounds self.old).1 (extent (bounds self.old).1 - 1) false) else bounds self.old) }
+        ensures after { model self.new ≡ (if slice_index_or (bounds self.old).1 i false then replaced (model self.old) i (extent (bounds self.old).1 - 1) else model self.old) }
+        ensures says { result ≡ (if slice_index_or (bounds self.old).1 i false && nat_lt (i + 1) (extent (bounds self.old).1) then Some (extent (bounds self.old).1 - 1) else None) }
         ensures dense { Dense (bounds self.old).1 → Dense (bounds self.new).1 }
         ensures cost { spent self.new ≤ spent self.old }
     {
@@ -478,7 +480,7 @@ impl Store<'_> {
         requires held_2 { Held self.old }
         requires dense_2 { Dense (bounds self.old).1 }
         ensures held { Held self.new }
-        ensures same { bounds self.new ≡ (if nat_le (i + k) (extent (bounds self.old).1) then (bounds self.old).0, marked (bounds self.old).1 (extent (bounds self.old).1 - k) k false else bounds self.old) }
+        ensures same { bounds self.new ≡ (if nat_le (i + k) (extent (bounds self.old).1) then ((bounds self.old).0, marked (bounds self.old).1 (extent (bounds self.old).1 - k) k false) else bounds self.old) }
         ensures after { model self.new ≡ (if nat_le (i + k) (extent (bounds self.old).1) then replaced_block (model self.old) i (extent (bounds self.old).1 - k) k else model self.old) }
         ensures says { result ≡ (if ltb (i + k) (extent (bounds self.old).1) then Some (extent (bounds self.old).1 - k) else None) }
         ensures dense { Dense (bounds self.new).1 }

@@ -1,10 +1,10 @@
-use Rattle.std.proofs.Common.{◌≡◌, ℕ, ◌-◌, ◌/◌, length, refl, inl, arith}
-use Rattle.segments.specs.Layout.{segs, marks, goal, upto}
+use Rattle.std.proofs.Common.{◌≡◌, ◌-◌, ◌/◌, length, refl, inl, arith}
+use Rattle.segments.specs.Layout.{segs, marks, need, upto}
 use Rattle.store.specs.Held.{lists, lives, Held, bounds, model, spent}
 use Rattle.store.proofs.store_in.Goals as goal
 
 pub returns : goal.returns
-unfolding Held bounds model spent lists lives segs marks goal upto
+unfolding Held bounds model spent lists lives segs marks need upto
 returns c =
     let h = length c.args.words.now / 2 in
     let z : h - 0 ≡ h = omega arith in

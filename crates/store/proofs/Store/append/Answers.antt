@@ -1,6 +1,6 @@
-use Rattle.std.proofs.Common.{◌≡◌, ℕ, List, [], ◌∷◌, ◌++◌, length, get_or, sym, refl, ap, ◌∙◌, arith}
+use Rattle.std.proofs.Common.{◌≡◌, ℕ, List, [], ◌++◌, length, get_or, sym, ap, ◌∙◌, arith}
 use Rattle.segments.specs.Layout.{segs, Changed}
-use Rattle.store.specs.Held.{lists, lives, Reserved, Held, bounds, model, spent}
+use Rattle.store.specs.Held.{lists, Reserved, Held, bounds, model, spent}
 use Rattle.store.proofs.Totals.{lists_at}
 use Rattle.store.proofs.Growth.{shifted_model, grew_inv, grew_model, grew_bounds, grew_cost}
 use Rattle.store.proofs.Store.append.Goals as goal
@@ -13,7 +13,7 @@ append_segment-requires c =
     let z = c.in_default.ensures.after in
     let m = lists_at u.words.now u.half u.count c.args.j in
     let e = ap (λ (y : List (List ℕ)). length (get_or y c.args.j [])) (shifted_model s u c.requires z.shifted) in
-    (z.shifted.sound.good, omega (arith, z.there, z.shifted.count), omega (arith, z.room, ap (length {A = ℕ}) m, e, c.len-more.ensures))
+    record { good = z.shifted.sound.good; i_lt_n = omega (arith, z.there, z.shifted.count); j_bound = omega (arith, z.room, ap (length {A = ℕ}) m, e, c.len-more.ensures) }
 
 pub returns : goal.returns
 unfolding Held bounds model spent

@@ -1,6 +1,5 @@
-use Rattle.std.proofs.Common.{◌≡◌, [], ◌∷◌, sym, refl, ap, ◌∙◌, arith}
-use Rattle.store.specs.declared.Store.{Store}
-use Rattle.store.specs.Held.{lists, lives, Held, bounds, model, spent}
+use Rattle.std.proofs.Common.{refl, ap, arith}
+use Rattle.store.specs.Held.{Held, bounds, model, spent}
 use Rattle.store.proofs.Growth.{grew_inv, grew_model, grew_bounds, grew_cost}
 use Rattle.store.proofs.Store.extend.Goals as goal
 
@@ -19,7 +18,7 @@ returns-in-Err c =
 pub append_words-requires : goal.append_words-requires
 append_words-requires c =
     let z = c.in_default.ensures.after in
-    (z.shifted.sound.good, omega (arith, z.there, z.shifted.count), omega (arith, z.room))
+    record { good = z.shifted.sound.good; i_lt_n = omega (arith, z.there, z.shifted.count); xs_bound = omega (arith, z.room) }
 
 pub overflow_add-self : goal.overflow_add-self
 overflow_add-self c =

@@ -1,4 +1,4 @@
-use Rattle.std.proofs.Common.{◌≡◌, ℕ, ◌<◌, Bool, true, false, List, [], length, get_or, set, sym, refl, ap, ◌∙◌, ap₂, arith}
+use Rattle.std.proofs.Common.{ℕ, ◌<◌, Bool, false, List, [], length, get_or, set, sym, ap, ◌∙◌, ap₂, arith}
 use Rattle.std.proofs.lemmas.List.{get_or-set_same}
 use Rattle.store.specs.Held.{lists, lives, Held, bounds, model}
 use Rattle.store.proofs.Totals.{lists_at, length_lists}
@@ -27,7 +27,7 @@ release-requires c =
     let a = live_back s.words.now s.half s.count i (sym c.if-not-in_use.ensures) in
     let b = live_back u.words.now u.half u.count i (ap (λ (p : ℕ × List Bool). get_or p.1 i false) e.same ∙ sym c.if-not-in_use.ensures) in
     let l : i < length (lists s.words.now s.half s.count) = omega (arith, a.0, few _ _ _ _ _ _ _ c.requires, length_lists s.words.now s.half s.count (few _ _ _ _ _ _ _ c.requires)) in
-    (e.held, b.0, sym (lists_at u.words.now u.half u.count i) ∙ ap (λ (y : List (List ℕ)). get_or y i []) e.after ∙ get_or-set_same (lists s.words.now s.half s.count) i [] [] l)
+    record { sound_2 = e.held; i_lt_count = b.0; i_value = sym (lists_at u.words.now u.half u.count i) ∙ ap (λ (y : List (List ℕ)). get_or y i []) e.after ∙ get_or-set_same (lists s.words.now s.half s.count) i [] [] l }
 
 pub returns : goal.returns
 unfolding Held bounds model

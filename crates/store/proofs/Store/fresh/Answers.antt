@@ -1,4 +1,4 @@
-use Rattle.std.proofs.Common.{◌≡◌, ℕ, ◌+◌, ◌*◌, ◌<◌, ◌≤◌, Bool, List, sym, refl, ap, ◌∙◌, arith}
+use Rattle.std.proofs.Common.{◌≡◌, Bool, List, refl, ap, ◌∙◌, arith}
 use Rattle.std.proofs.lemmas.Bool.{lt-ltb, le-ltb}
 use Rattle.std.specs.List.{prefix_len}
 use Rattle.store.specs.Held.{lives, Held, bounds, model, spent}
@@ -13,7 +13,7 @@ unused-i-requires c = c.requires
 
 pub engage-requires : goal.engage-requires
 unfolding Held
-engage-requires c = (c.requires.good, c.if-i-n.true)
+engage-requires c = record { good = c.requires.good; i_lt_n = c.if-i-n.true }
 
 pub returns-then-i-n : goal.returns-then-i-n
 unfolding Held bounds model spent
@@ -58,7 +58,7 @@ returns-then-spare-lt8 c =
 pub enlarge-requires : goal.enlarge-requires
 unfolding Held
 enlarge-requires c =
-    (hinted_inv _ _ _ _ _ _ _ c.requires (λ k h. c.unused-i.ensures.before k (omega (arith, c.if-i-n.false))), omega (arith, c.if-spare-lt8.false, c.spare.ensures))
+    record { sound_2 = hinted_inv _ _ _ _ _ _ _ c.requires (λ k h. c.unused-i.ensures.before k (omega (arith, c.if-i-n.false))); half_bound = omega (arith, c.if-spare-lt8.false, c.spare.ensures) }
 
 pub returns : goal.returns
 unfolding Held bounds model spent

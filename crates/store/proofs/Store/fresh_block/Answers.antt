@@ -29,14 +29,14 @@ loop-j-init c = taken_none c.args.self.now c.requires
 pub loop-j-preserved : goal.loop-j-preserved
 loop-j-preserved c =
     let e = c.enlarge.ensures in
-    taken_more c.args.self.now c.loop-j.self c.enlarge.new.self c.loop-j.-j c.loop-j.invariant e.sound e.counts e.bounds e.same e.cost
+    taken_more c.args.self.now c.loop-j.self c.enlarge.new.self c.loop-j._j c.loop-j.invariant e.sound e.counts e.bounds e.same e.cost
 
 pub returns : goal.returns
 unfolding Held bounds model
 returns c =
     let s = c.args.self.now in
     let k = c.args.k in
-    let q : c.loop-j.-j ≡ k = omega arith in
+    let q : c.loop-j._j ≡ k = omega arith in
     let t : Taken s c.loop-j.self k = rw q at c.loop-j.invariant in
     let x = extent_of _ _ _ _ _ _ _ c.requires in
     record {

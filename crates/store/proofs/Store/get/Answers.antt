@@ -1,4 +1,4 @@
-use Rattle.std.proofs.Common.{◌≡◌, ℕ, List, [], get_or, sym, ap, ◌∙◌}
+use Rattle.std.proofs.Common.{ℕ, List, get_or, sym, ap, ◌∙◌}
 use Rattle.store.specs.Held.{Held, model}
 use Rattle.store.proofs.Totals.{lists_at}
 use Rattle.store.proofs.Store.get.Goals as goal

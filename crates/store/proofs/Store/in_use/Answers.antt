@@ -1,4 +1,4 @@
-use Rattle.std.proofs.Common.{◌≡◌, ℕ, eqb, sym, ap, ◌∙◌, arith}
+use Rattle.std.proofs.Common.{ℕ, eqb, sym, ap, ◌∙◌, arith}
 use Rattle.store.specs.Held.{Held, bounds}
 use Rattle.store.proofs.Totals.{lives_at, dead_past}
 use Rattle.segments.proofs.Table.{marks_at}
@@ -14,4 +14,4 @@ returns c = ap (λ (x : ℕ). eqb x 1) c.read.ensures ∙ sym (lives_at _ _ _ _ 
 
 pub read-requires : goal.read-requires
 unfolding Held
-read-requires c = (omega arith, omega (arith, c.requires.good.table))
+read-requires c = record { c_bound = omega arith; i_in_bounds = omega (arith, c.requires.good.table) }

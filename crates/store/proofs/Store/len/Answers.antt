@@ -1,4 +1,4 @@
-use Rattle.std.proofs.Common.{◌≡◌, ℕ, List, [], length, get_or, sym, ap, ◌∙◌, arith}
+use Rattle.std.proofs.Common.{length, sym, ap, ◌∙◌, arith}
 use Rattle.store.specs.Held.{Held, model}
 use Rattle.segments.proofs.Table.{segs_past}
 use Rattle.segments.proofs.SegmentLaws.{len_is}
@@ -15,4 +15,4 @@ returns c = c.read.ensures ∙ len_is _ _ c.requires.good _ c.if-i-self.false �
 
 pub read-requires : goal.read-requires
 unfolding Held
-read-requires c = (omega arith, omega (arith, c.requires.good.table))
+read-requires c = record { c_bound = omega arith; i_in_bounds = omega (arith, c.requires.good.table) }

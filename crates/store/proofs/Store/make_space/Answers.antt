@@ -1,14 +1,14 @@
-use Rattle.std.proofs.Common.{◌≡◌, refl, arith}
+use Rattle.std.proofs.Common.{refl, arith}
 use Rattle.store.proofs.StoreLaws.{spread_few, tidy_cost, ask_cost, used_up, free_large}
 use Rattle.segments.proofs.Upto.{upto_at}
-use Rattle.segments.specs.Layout.{field, tense}
+use Rattle.segments.specs.Layout.{tense}
 use Rattle.store.specs.Held.{stayed, changed}
 use Rattle.store.proofs.Store.make_space.Goals as goal
 
 pub returns-then-self-ask : goal.returns-then-self-ask
 returns-then-self-ask c =
     record {
-      shifted = record { sound = c.requires.0; half = refl; count = refl; total = refl; same = refl; used = λ k h. refl };
+      shifted = record { sound = c.requires.sound; half = refl; count = refl; total = refl; same = refl; used = λ k h. refl };
       space = c.if-self-ask.true;
       seldom = stayed refl;
       cost = ask_cost _ _ _ _;
@@ -22,13 +22,13 @@ returns c =
     let t = c.tidy.new.self in
     let e = c.tidy.ensures in
     let z = e.shifted in
-    let f = spread_few _ _ _ _ _ _ _ c.requires.0 in
+    let f = spread_few _ _ _ _ _ _ _ c.requires.sound in
     record {
       shifted = z;
-      space = omega (arith, e.space, f, z.half, z.count, c.requires.1);
-      seldom = changed (used_up s.low s.half s.hi s.count c.args.ask c.requires.0.floor c.if-self-ask.false) (free_large s.half t.half s.count t.count t.hi t.low s.total _ c.args.ask z.half z.count e.space f c.requires.1);
+      space = omega (arith, e.space, f, z.half, z.count, c.requires.ask_bound);
+      seldom = changed (used_up s.low s.half s.hi s.count c.args.ask c.requires.sound.floor c.if-self-ask.false) (free_large s.half t.half s.count t.count t.hi t.low s.total _ c.args.ask z.half z.count e.space f c.requires.ask_bound);
       cost = tidy_cost s.moved t.moved s.half t.half s.count t.count s.hi s.low t.hi t.low s.total _ c.args.ask
-          z.half z.count e.space f c.requires.1 c.requires.0.floor c.if-self-ask.false (omega (arith, e.counts));
+          z.half z.count e.space f c.requires.ask_bound c.requires.sound.floor c.if-self-ask.false (omega (arith, e.counts));
       rest = omega (arith, e.eased);
       eased = λ i h. omega (arith, e.eased, upto_at (tense s.words.now) s.count i h);
     }

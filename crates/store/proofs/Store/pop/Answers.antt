@@ -1,4 +1,4 @@
-use Rattle.std.proofs.Common.{◌≡◌, ℕ, ◌-◌, List, [], length, get_or, take, set, sym, refl, ap, ◌∙◌, arith}
+use Rattle.std.proofs.Common.{◌≡◌, ℕ, ◌-◌, List, [], length, get_or, take, set, sym, refl, arith}
 use Rattle.std.proofs.lemmas.List.{set-get_or, nil_from_length}
 use Rattle.store.specs.Held.{model}
 use Rattle.store.proofs.Store.pop.Goals as goal

@@ -1,4 +1,4 @@
-use Rattle.std.proofs.Common.{◌≡◌, ◌+◌, ◌-◌, sym, refl, arith}
+use Rattle.std.proofs.Common.{◌+◌, sym, arith}
 use Rattle.std.proofs.lemmas.Bool.{lt-ltb, le-ltb}
 use Rattle.store.proofs.Blocks.{extent_count, in_table, removed_same, removed_dense, removed_after}
 use Rattle.store.proofs.Store.remove.Goals as goal

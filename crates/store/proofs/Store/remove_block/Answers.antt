@@ -6,11 +6,11 @@ use Rattle.store.proofs.Store.remove_block.Goals as goal
 pub returns-then-k-n : goal.returns-then-k-n
 returns-then-k-n c =
     let s = c.args.self.now in
-    let x = extent_count s c.requires.0 in
+    let x = extent_count s c.requires.held_2 in
     let m = c.args.i + c.args.k in
     record {
-      held = c.requires.0;
-      dense = c.requires.1;
+      held = c.requires.held_2;
+      dense = c.requires.dense_2;
       same = rw (x, lt-leb m s.count (omega (arith, c.if-k-n.true)));
       after = rw (x, lt-leb m s.count (omega (arith, c.if-k-n.true)));
       says = rw (x, le-ltb m s.count (omega (arith, c.if-k-n.true)));
@@ -20,11 +20,11 @@ returns-then-k-n c =
 pub returns-then-i-from : goal.returns-then-i-from
 returns-then-i-from c =
     let s = c.args.self.now in
-    let x = extent_count s c.requires.0 in
+    let x = extent_count s c.requires.held_2 in
     let m = c.args.i + c.args.k in
     record {
-      held = c.requires.0;
-      dense = c.requires.1;
+      held = c.requires.held_2;
+      dense = c.requires.dense_2;
       same = rw (x, lt-leb m s.count (omega (arith, c.if-i-from.true)));
       after = rw (x, lt-leb m s.count (omega (arith, c.if-i-from.true)));
       says = rw (x, le-ltb m s.count (omega (arith, c.if-i-from.true)));
@@ -34,7 +34,7 @@ returns-then-i-from c =
 pub loop-left-init : goal.loop-left-init
 loop-left-init c =
     let s = c.args.self.now in
-    (given_none s c.args.i (s.count - c.args.k) c.args.k c.requires.0 c.requires.1 (omega (arith, c.if-k-n.false)), omega arith)
+    (given_none s c.args.i (s.count - c.args.k) c.args.k c.requires.held_2 c.requires.dense_2 (omega (arith, c.if-k-n.false)), omega arith)
 
 pub loop-left-preserved : goal.loop-left-preserved
 loop-left-preserved c =
@@ -50,7 +50,7 @@ pub returns-then-i-from-2 : goal.returns-then-i-from-2
 returns-then-i-from-2 c =
     let s = c.args.self.now in
     let m = c.args.i + c.args.k in
-    let x = extent_count s c.requires.0 in
+    let x = extent_count s c.requires.held_2 in
     let g = given_all s c.loop-left.self c.args.i (s.count - c.args.k) c.args.k c.loop-left.left c.loop-left.invariant.0 c.loop-left-test.false in
     let h : m ≤ s.count = omega (arith, c.if-k-n.false, c.if-i-from.false) in
     record {
@@ -66,7 +66,7 @@ pub returns : goal.returns
 returns c =
     let s = c.args.self.now in
     let m = c.args.i + c.args.k in
-    let x = extent_count s c.requires.0 in
+    let x = extent_count s c.requires.held_2 in
     let g = given_all s c.loop-left.self c.args.i (s.count - c.args.k) c.args.k c.loop-left.left c.loop-left.invariant.0 c.loop-left-test.false in
     let h : m ≤ s.count = omega (arith, c.if-k-n.false, c.if-i-from.false) in
     record {

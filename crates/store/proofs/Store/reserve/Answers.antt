@@ -1,7 +1,6 @@
-use Rattle.std.proofs.Common.{◌≡◌, ◌+◌, ◌*◌, ◌/◌, ◌<◌, ◌≤◌, true, false, [], length, get_or, sym, refl, ap, ◌∙◌, arith}
-use Rattle.segments.specs.Layout.{field, size, room}
+use Rattle.std.proofs.Common.{◌+◌, [], length, get_or, sym, refl, ◌∙◌, arith}
 use Rattle.store.specs.Sums.{asked}
-use Rattle.store.specs.Held.{lists, lives, Held, bounds, model}
+use Rattle.store.specs.Held.{Held, bounds, model}
 use Rattle.store.proofs.StoreLaws.{size_le, old_size, enough_yes, enough_no, shifted_size, live_back, sum_fits}
 use Rattle.store.proofs.Store.reserve.Goals as goal
 
@@ -44,7 +43,7 @@ unfolding Held bounds model
 make_room-requires c =
     let s = c.args.self.now in
     let i = live_back s.words.now s.half s.count c.args.i (sym c.if-not-in_use.ensures) in
-    (c.requires, i.0, c.len-len.ensures ∙ sym (old_size _ _ _ _ _ _ _ c.requires c.args.i i.0), omega (arith, c.if-m-spare.false, c.spare-spare.ensures))
+    record { sound = c.requires; i_lt_count = i.0; len_value = c.len-len.ensures ∙ sym (old_size _ _ _ _ _ _ _ c.requires c.args.i i.0); more_bound = omega (arith, c.if-m-spare.false, c.spare-spare.ensures) }
 
 pub returns : goal.returns
 unfolding Held bounds model

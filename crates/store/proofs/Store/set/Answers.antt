@@ -1,6 +1,6 @@
-use Rattle.std.proofs.Common.{◌≡◌, ℕ, ◌<◌, ◌≤◌, ◌≢◌, List, [], length, get_or, set, sym, refl, ap, ◌∙◌, arith}
+use Rattle.std.proofs.Common.{◌≡◌, ◌<◌, ◌≤◌, ◌≢◌, [], get_or, set, arith}
 use Rattle.std.proofs.lemmas.List.{length-set}
-use Rattle.segments.specs.Layout.{field, mark, Changed}
+use Rattle.segments.specs.Layout.{mark, Changed}
 use Rattle.store.specs.Held.{lists, Held, model, bounds, spent}
 use Rattle.store.proofs.Totals.{lists_at}
 use Rattle.store.proofs.StoreLaws.{dead_old, past_old, changed_inv, changed_model, changed_bounds, shrunk_strain}

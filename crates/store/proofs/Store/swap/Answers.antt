@@ -1,6 +1,6 @@
 use Rattle.std.proofs.Common.{◌≡◌, ℕ, Bool, List, [], get_or, set, sym, refl, ap, ◌∙◌, arith}
 use Rattle.std.proofs.lemmas.List.{set-set, set-get_or}
-use Rattle.store.specs.Held.{lists, lives, Held, bounds, model, spent}
+use Rattle.store.specs.Held.{Held, bounds, model, spent}
 use Rattle.store.proofs.StoreLaws.{live_back}
 use Rattle.store.proofs.Numbers.{exchanged_inv, exchanged_lists, exchanged_lives}
 use Rattle.store.proofs.Store.swap.Goals as goal
@@ -24,7 +24,7 @@ exchange-requires c =
     let s = c.args.self.now in
     let a = live_back s.words.now s.half s.count c.args.i (sym c.if-not-in_use.ensures) in
     let b = live_back s.words.now s.half s.count c.args.j (sym c.if-not-in_use-2.ensures) in
-    (c.requires.good, a.0, b.0, c.if-i-j.false)
+    record { good = c.requires.good; i_lt_n = a.0; j_lt_n = b.0; i_nonzero = c.if-i-j.false }
 
 pub returns : goal.returns
 unfolding Held bounds model spent

@@ -1,4 +1,4 @@
-use Rattle.std.proofs.Common.{◌≡◌, refl, arith}
+use Rattle.std.proofs.Common.{refl, arith}
 use Rattle.store.proofs.StoreLaws.{spread_few, tidied, other_side, other_apart, rested}
 use Rattle.store.proofs.Store.tidy.Goals as goal
 
@@ -13,7 +13,7 @@ evacuate-end-requires c =
     let p = c.requires in
     let f = spread_few _ _ _ _ _ _ _ p in
     let o = other_side _ _ _ _ _ _ _ p in
-    (p.good, p.within, other_apart _ _ _ _ _ _ _ p, omega (arith, f, o, p.bound), omega (arith, o, p.long))
+    record { good_2 = p.good; within = p.within; fact = other_apart _ _ _ _ _ _ _ p; n_bound = omega (arith, f, o, p.bound); to_in_bounds = omega (arith, o, p.long) }
 
 pub returns : goal.returns
 returns c =

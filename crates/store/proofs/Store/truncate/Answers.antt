@@ -1,6 +1,6 @@
-use Rattle.std.proofs.Common.{◌≡◌, ℕ, ◌-◌, ◌<◌, ◌≤◌, ◌≢◌, List, [], length, get_or, take, sym, refl, ap, ◌∙◌, arith}
+use Rattle.std.proofs.Common.{◌≡◌, ◌-◌, ◌<◌, ◌≤◌, ◌≢◌, [], length, get_or, take, sym, refl, arith}
 use Rattle.std.proofs.lemmas.List.{length-take-le, take_all, set-get_or}
-use Rattle.segments.specs.Layout.{field, mark, Changed}
+use Rattle.segments.specs.Layout.{mark, Changed}
 use Rattle.store.specs.Held.{lists, Held, model, bounds, spent}
 use Rattle.store.proofs.Totals.{lists_at}
 use Rattle.store.proofs.StoreLaws.{there, old_size, size_le, dead_old, past_old, changed_inv, changed_model, changed_bounds, shrunk_strain}
@@ -17,7 +17,7 @@ pub cut-requires : goal.cut-requires
 unfolding Held model
 cut-requires c =
     let h = there _ _ _ _ _ _ _ c.requires c.args.i c.args.m (omega (arith, c.if-m-len.false, c.len-len.ensures)) in
-    (c.requires.good, h, omega (arith, c.if-m-len.false, c.len-len.ensures, old_size _ _ _ _ _ _ _ c.requires c.args.i h))
+    record { good = c.requires.good; i_lt_n = h; m_bound = omega (arith, c.if-m-len.false, c.len-len.ensures, old_size _ _ _ _ _ _ _ c.requires c.args.i h) }
 
 pub overflow_sub-self-2 : goal.overflow_sub-self-2
 unfolding Held model

@@ -1,4 +1,4 @@
-use Rattle.std.proofs.Common.{◌≡◌, sym, ◌∙◌}
+use Rattle.std.proofs.Common.{sym, ◌∙◌}
 use Rattle.store.specs.Held.{Held, model}
 use Rattle.store.proofs.Totals.{lists_at}
 use Rattle.store.proofs.Store.words.Goals as goal
