@@ -1,15 +1,15 @@
 -- Chains of && and ||, from the first to the last.
-use Rattle.std.proofs.Common.{◌≡◌, ℕ, zero, suc, ◌+◌, ◌-◌, ◌*◌, ◌<◌, ◌≤◌, max, Bool, true, false, T, eqb, ◌≢◌, ◌⊎◌, List, [], ◌∷◌, length, get_or, drop, set, sym, refl, ap, ◌∙◌, subst, inl, inr, arith, eqb→eq, length-drop, length-set}
-use mathlib.Core.Option.{Option, some, none}
+use Rattle.std.proofs.Common.{◌≡◌, ℕ, zero, suc, ◌+◌, ◌-◌, ◌*◌, ◌<◌, ◌≤◌, max, true, false, T, eqb, ◌≢◌, ◌⊎◌, List, length, get_or, set, sym, refl, ◌∙◌, subst, inl, inr, arith, eqb→eq, length-drop, length-set}
+use mathlib.Core.Option.{some, none}
 use Rattle.std.proofs.lemmas.List.{get_or-set_same, get_or-set_other}
-use Rattle.syntax.specs.Tree.{Pipeline, AndOr, first, joined}
+use Rattle.syntax.specs.Tree.{AndOr, first, joined}
 use Rattle.syntax.specs.Stage.{and_or_stage, pipeline_stage}
-use Rattle.grammar.specs.Parser.{Parsed, level, parse_negatable, parse_and_or_go, parse_and_or, joiner_at}
+use Rattle.grammar.specs.Parser.{level, parse_negatable, parse_and_or_go, parse_and_or, joiner_at}
 use Rattle.lexer.specs.Stored.{tokens_of, tokens_from, code_at, Has}
 use Rattle.grammar.proofs.Fit.{by_bool}
-use Rattle.lexer.proofs.Next.{eqb_no, eqb_yes}
+use Rattle.lexer.proofs.Next.{eqb_yes}
 use Rattle.reader.specs.Layout.{flag, AndOrAt}
-use Rattle.reader.specs.Reading.{Made, GotNegatable, GotAndOr}
+use Rattle.reader.specs.Reading.{GotNegatable, GotAndOr}
 use Rattle.reader.proofs.Basics.{max_assoc}
 use Rattle.reader.proofs.Frame.{pipeline_frame, and_or_frame}
 use Rattle.reader.proofs.Expects.{got_and_sign, no_and_sign, got_or_sign, no_or_sign}

@@ -1,12 +1,12 @@
 -- The arms of a case, as a chain.
-use Rattle.std.proofs.Common.{◌≡◌, ℕ, zero, suc, ◌+◌, ◌*◌, ◌<◌, ◌≤◌, max, Bool, true, false, ◌≢◌, ◌⊎◌, List, [], ◌∷◌, length, get_or, set, sym, refl, ap, ◌∙◌, subst, inl, inr, arith, length-set}
-use mathlib.Core.Option.{Option, some, none}
+use Rattle.std.proofs.Common.{◌≡◌, ℕ, ◌+◌, ◌<◌, ◌≤◌, true, ◌≢◌, ◌⊎◌, List, length, set, refl, ◌∙◌, arith}
+use mathlib.Core.Option.{none}
 use Rattle.syntax.specs.Tree.{Arms, no_arms, arm}
 use Rattle.syntax.specs.Stage.{arms_stage}
 use Rattle.grammar.specs.Parser.{level, parse_word, parse_arms_go, parse_arms}
-use Rattle.lexer.specs.Stored.{tokens_of, tokens_from, code_at, Has}
+use Rattle.lexer.specs.Stored.{tokens_from, code_at, Has}
 use Rattle.reader.specs.Layout.{ArmsAt}
-use Rattle.reader.specs.Reading.{Made, GotWord, GotList, GotArms}
+use Rattle.reader.specs.Reading.{GotWord, GotList, GotArms}
 use Rattle.reader.proofs.Basics.{max_assoc}
 use Rattle.reader.proofs.Frame.{parts_frame, list_frame}
 use Rattle.reader.proofs.Chains.{Chain, chain, step, skip, finish, fail}

@@ -1,7 +1,6 @@
 -- Small laws that several files use.
-use Rattle.std.proofs.Common.{◌≡◌, ℕ, zero, suc, ◌+◌, ◌<◌, ◌≤◌, max, Bool, true, false, not, T, ◌⊎◌, sym, refl, ap, ◌∙◌, subst, inl, inr, arith}
+use Rattle.std.proofs.Common.{◌≡◌, ℕ, zero, suc, ◌<◌, ◌≤◌, max, Bool, true, false, T, ◌⊎◌, sym, subst, inl, inr, arith}
 use mathlib.Core.Option.{Option, some, none}
-use Rattle.syntax.specs.Base.{on_some}
 
 is_some : {A : Type 0} → Option A → Bool
 is_some none = false

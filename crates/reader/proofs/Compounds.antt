@@ -1,16 +1,15 @@
 -- Compound commands: each step that fails, and the whole.
-use Rattle.std.proofs.Common.{◌≡◌, ℕ, zero, suc, ◌+◌, ◌*◌, ◌<◌, ◌≤◌, max, Bool, true, false, ◌||◌, eqb, ◌≢◌, ◌⊎◌, List, [], ◌∷◌, length, get_or, take, drop, set, sym, refl, ap, ◌∙◌, subst, inl, inr, arith, length-set}
-use mathlib.Core.Option.{Option, some, none}
+use Rattle.std.proofs.Common.{◌≡◌, ℕ, ◌+◌, ◌*◌, ◌<◌, ◌≤◌, max, true, false, ◌≢◌, ◌⊎◌, List, length, get_or, take, drop, set, ◌∙◌, inl, inr, arith, length-set}
+use mathlib.Core.Option.{some, none}
 use Rattle.std.proofs.lemmas.List.{get_or-set_same, get_or-set_other}
 use Rattle.syntax.specs.Tree.{group, subshell, if, while, for, case, function}
 use Rattle.grammar.specs.Grammar.{reserved, listed}
-use Rattle.grammar.specs.Parser.{level, parse_opener, parse_function, parse_command_by, parse_words, parse_word, parse_redirects, parse_arms, parse_name, separator_at, la_paren, open_if, open_while, open_for, open_case, open_brace}
-use Rattle.lexer.specs.Stored.{tokens_of, tokens_from, code_at, Has}
-use Rattle.lexer.proofs.Next.{eqb_no, eqb_yes}
+use Rattle.grammar.specs.Parser.{level, parse_opener, parse_function, parse_command_by, parse_words, parse_word, parse_redirects, parse_arms, separator_at, la_paren, open_if, open_while, open_for, open_case, open_brace}
+use Rattle.lexer.specs.Stored.{tokens_from, code_at, Has}
 use Rattle.reader.specs.Layout.{BytesAt}
-use Rattle.reader.specs.Reading.{names, Ready, Made, GotList, GotWords, GotWord, GotRedirects, GotArms, GotElse, GotCommand}
+use Rattle.reader.specs.Reading.{names, Ready, GotList, GotWords, GotWord, GotRedirects, GotArms, GotElse, GotCommand}
 use Rattle.reader.proofs.Basics.{max_assoc}
-use Rattle.reader.proofs.Frame.{parts_frame, words_frame, redirects_frame, arms_frame, else_frame, list_frame}
+use Rattle.reader.proofs.Frame.{parts_frame, words_frame, arms_frame, else_frame, list_frame}
 use Rattle.reader.proofs.Names.{NameHere, name_none, name_here, function_none, function_here}
 use Rattle.reader.proofs.Expects.{got_if, no_if, got_then, no_then, got_while, no_while, got_do, no_do, got_done, no_done, got_for, no_for, got_in, no_in, got_case, no_case, got_esac, no_esac, got_open, no_open, got_close, no_close, got_open_paren_sign, no_open_paren_sign, got_close_paren_sign, no_close_paren_sign, got_semicolon_sign, no_semicolon_sign, got_newline_sign, no_newline_sign}
 

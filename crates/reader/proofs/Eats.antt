@@ -1,11 +1,11 @@
 -- Known tokens, by their numbers.
-use Rattle.std.proofs.Common.{◌≡◌, ℕ, zero, suc, ◌+◌, ◌<◌, ◌≤◌, Bool, true, false, not, ◌&&◌, T, eqb, ◌≢◌, List, [], ◌∷◌, ◌++◌, length, get_or, sym, refl, ap, ◌∙◌, subst, arith, eqb→eq, rules}
-use mathlib.Core.Option.{Option, some, none}
+use Rattle.std.proofs.Common.{◌≡◌, ℕ, zero, suc, ◌<◌, ◌≤◌, Bool, true, false, ◌&&◌, T, eqb, ◌≢◌, List, [], ◌∷◌, length, get_or, sym, refl, ap, ◌∙◌, subst, arith, eqb→eq, rules}
+use mathlib.Core.Option.{some, none}
 use Rattle.syntax.specs.Base.{pick, same, Name}
-use Rattle.grammar.specs.Tokens.{Token, token}
+use Rattle.grammar.specs.Tokens.{Token}
 use Rattle.grammar.specs.Grammar.{sign}
 use Rattle.grammar.specs.Parser.{same_flag, same_token, expect, after_first}
-use Rattle.lexer.specs.Stored.{index_of, sign_names, sign_code, bare_code, substitution_code, token_code_of, token_code, code_at}
+use Rattle.lexer.specs.Stored.{index_of, sign_names, sign_code, token_code_of, token_code, code_at}
 use Rattle.grammar.proofs.Fit.{by_bool}
 use Rattle.lexer.proofs.Next.{eqb_yes}
 use Rattle.reader.proofs.Views.{Bare, b_none, b_name, b_key, b_set, bare_in}

@@ -1,14 +1,14 @@
 -- What stands behind a then's list.
-use Rattle.std.proofs.Common.{◌≡◌, ℕ, zero, suc, ◌+◌, ◌-◌, ◌*◌, ◌<◌, ◌≤◌, max, Bool, true, false, ◌≢◌, List, [], ◌∷◌, length, get_or, set, sym, refl, ap, ◌∙◌, subst, arith, length-set}
-use mathlib.Core.Option.{Option, some, none}
+use Rattle.std.proofs.Common.{◌≡◌, ℕ, ◌+◌, ◌-◌, ◌<◌, ◌≤◌, max, false, ◌≢◌, List, length, get_or, set, sym, ◌∙◌, arith, length-set}
+use mathlib.Core.Option.{some, none}
 use Rattle.std.proofs.lemmas.List.{get_or-set_same, get_or-set_other}
 use Rattle.syntax.specs.Tree.{no_redirects, if, no_else, else, single, first, end, next}
 use Rattle.syntax.specs.Stage.{list_stage, else_stage}
 use Rattle.grammar.specs.Parser.{level, parse_list}
-use Rattle.lexer.specs.Stored.{tokens_of, tokens_from, code_at, Has}
-use Rattle.reader.specs.Reading.{Made, GotList, GotElse, Nest}
+use Rattle.lexer.specs.Stored.{tokens_from, code_at, Has}
+use Rattle.reader.specs.Reading.{GotList, GotElse, Nest}
 use Rattle.reader.proofs.Basics.{max_assoc}
-use Rattle.reader.proofs.Frame.{list_frame, else_frame}
+use Rattle.reader.proofs.Frame.{list_frame}
 use Rattle.reader.proofs.Levels.{lists_are, elses_are}
 use Rattle.reader.proofs.Views.{there}
 use Rattle.reader.proofs.Expects.{got_fi, no_fi, got_else, no_else_key, got_elif, no_elif, got_then, no_then}

@@ -1,11 +1,10 @@
 -- One known token, by its code.
-use Rattle.std.proofs.Common.{◌≡◌, ℕ, ◌+◌, ◌<◌, ◌≤◌, Bool, true, false, List, [], ◌∷◌, codes, sym, refl, ap, ◌∙◌, subst, arith}
-use mathlib.Core.Option.{Option, some, none}
+use Rattle.std.proofs.Common.{◌≡◌, ℕ, ◌+◌, ◌<◌, ◌≤◌, List, [], ◌∷◌, codes, sym, refl, ap, ◌∙◌, arith}
+use mathlib.Core.Option.{some, none}
 use Rattle.syntax.specs.Base.{Name}
-use Rattle.grammar.specs.Tokens.{Token}
 use Rattle.grammar.specs.Grammar.{sign, keyword, kw_when, kw_if, kw_then, kw_elif, kw_else, kw_fi, kw_while, kw_do, kw_done, kw_for, kw_in, kw_case, kw_esac, kw_open, kw_close, kw_not}
 use Rattle.grammar.specs.Parser.{expect, after_first}
-use Rattle.lexer.specs.Stored.{keyword_index, bare_code, sign_code, tokens_from, code_at, Has}
+use Rattle.lexer.specs.Stored.{keyword_index, sign_code, tokens_from, code_at, Has}
 use Rattle.lexer.proofs.Runs.{key_code}
 use Rattle.reader.proofs.Views.{here}
 use Rattle.reader.proofs.Eats.{eat_no, eat_sign}

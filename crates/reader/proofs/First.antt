@@ -1,13 +1,13 @@
 -- Whether a word may be a command's first, by its token and the next.
-use Rattle.std.proofs.Common.{◌≡◌, ℕ, zero, suc, ◌+◌, ◌<◌, ◌≤◌, Bool, true, false, not, ◌&&◌, ◌||◌, T, eqb, leb, List, [], ◌∷◌, ◌++◌, length, sym, refl, ap, ◌∙◌, subst, arith, leb→le}
+use Rattle.std.proofs.Common.{◌≡◌, ℕ, zero, suc, ◌+◌, ◌≤◌, Bool, true, false, not, ◌&&◌, ◌||◌, T, leb, List, [], ◌∷◌, length, sym, refl, ap, ◌∙◌, subst, arith, leb→le}
 use mathlib.Core.Option.{Option, some, none}
 use lib.Dec.{nleb→lt, leb-suc-suc}
 use Rattle.syntax.specs.Base.{pick, opt, on_some, same, Name, valid_name}
-use Rattle.syntax.specs.Tree.{WordPart, literal, parameter, substitution, Word, no_parts, and_part, CommandList}
-use Rattle.grammar.specs.Tokens.{Token, token}
+use Rattle.syntax.specs.Tree.{WordPart, literal, Word, no_parts, and_part}
+use Rattle.grammar.specs.Tokens.{Token}
 use Rattle.grammar.specs.Grammar.{sign, Split, split_equals, is_assignment, reserved, listed}
-use Rattle.grammar.specs.Parser.{Parsed, Deeper, parse_part_go, parse_part, parse_more_go, parse_more, parse_word, next_joined, first_word_fits, parse_substitution, expect}
-use Rattle.lexer.specs.Stored.{index_of, keyword_index, bare_code, assignment_code, word_code, sign_code, token_code_of, token_code}
+use Rattle.grammar.specs.Parser.{Deeper, parse_part_go, parse_part, parse_more_go, parse_more, parse_word, next_joined, first_word_fits, parse_substitution, expect}
+use Rattle.lexer.specs.Stored.{index_of, keyword_index, bare_code, assignment_code, word_code, token_code_of, token_code}
 use Rattle.reader.specs.Reading.{may_be_first}
 use Rattle.grammar.proofs.Fit.{by_bool}
 use Rattle.grammar.proofs.Find.{some_is}

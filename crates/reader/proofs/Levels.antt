@@ -1,5 +1,5 @@
 -- Lists and else parts, level by level.
-use Rattle.std.proofs.Common.{◌≡◌, ℕ, zero, suc, ◌+◌, ◌-◌, ◌<◌, ◌≤◌, Bool, true, false, List, sym, refl, ap, ◌∙◌, subst, arith}
+use Rattle.std.proofs.Common.{◌≡◌, ℕ, zero, suc, ◌-◌, ◌<◌, Bool, false, List, sym, ap, arith}
 use mathlib.Core.Option.{none}
 use Rattle.grammar.specs.Tokens.{Token}
 use Rattle.grammar.specs.Parser.{level, parse_list, parse_else}

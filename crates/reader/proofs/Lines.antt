@@ -1,18 +1,15 @@
 -- Words and redirections, as chains.
-use Rattle.std.proofs.Common.{◌≡◌, ℕ, zero, suc, ◌+◌, ◌-◌, ◌*◌, ◌<◌, ◌≤◌, max, Bool, true, false, ◌≢◌, ◌⊎◌, List, [], ◌∷◌, ◌++◌, length, get_or, take, drop, set, sym, refl, ap, ◌∙◌, subst, inl, inr, arith, length-set}
-use mathlib.Core.Option.{Option, some, none}
+use Rattle.std.proofs.Common.{◌≡◌, ℕ, ◌+◌, ◌-◌, ◌<◌, ◌≤◌, Bool, true, false, ◌⊎◌, List, length, set, sym, refl, ap, ◌∙◌, subst, arith, length-set}
+use mathlib.Core.Option.{some, none}
 use Rattle.std.proofs.lemmas.List.{get_or-set_same, get_or-set_other}
-use Rattle.syntax.specs.Base.{on_some, opt}
-use Rattle.syntax.specs.Tree.{Word, Words, no_words, and_word, Redirects, no_redirects, redirect}
-use Rattle.grammar.specs.Tokens.{Token}
-use Rattle.grammar.specs.Parser.{Parsed, Deeper, level, parse_word, parse_words_go, parse_words, parse_redirects_go, parse_redirects, no_word, lookahead, redirect_at, after_first}
-use Rattle.reader.specs.Layout.{PartsAt, WordsAt, RedirectsAt}
-use Rattle.lexer.specs.Stored.{tokens_of, tokens_from, Has, code_at}
-use Rattle.syntax.specs.Tree.{RedirectKind}
+use Rattle.syntax.specs.Tree.{Words, no_words, and_word, Redirects, no_redirects, redirect}
+use Rattle.grammar.specs.Parser.{level, parse_word, parse_words_go, parse_words, parse_redirects_go, parse_redirects, no_word, lookahead, redirect_at, after_first}
+use Rattle.reader.specs.Layout.{WordsAt, RedirectsAt}
+use Rattle.lexer.specs.Stored.{tokens_from, Has, code_at}
 use Rattle.syntax.specs.Stage.{words_stage, redirects_stage}
-use Rattle.reader.specs.Reading.{ends_words, Made, GotWord, GotWords, GotRedirects}
+use Rattle.reader.specs.Reading.{ends_words, GotWord, GotWords, GotRedirects}
 use Rattle.reader.proofs.Views.{here, there}
-use Rattle.reader.proofs.Frame.{Same, parts_frame}
+use Rattle.reader.proofs.Frame.{parts_frame}
 use Rattle.reader.proofs.Signs.{ends_is, arrow_yes, arrow_no, kind_by, kind_back}
 use Rattle.reader.proofs.Chains.{Chain, chain, step, finish, fail}
 

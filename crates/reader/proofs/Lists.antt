@@ -1,15 +1,15 @@
 -- Lists of commands, as chains.
-use Rattle.std.proofs.Common.{◌≡◌, ℕ, zero, suc, ◌+◌, ◌-◌, ◌*◌, ◌<◌, ◌≤◌, max, Bool, true, false, ◌&&◌, T, eqb, leb, ◌≢◌, ◌⊎◌, List, [], ◌∷◌, length, get_or, set, sym, refl, ap, ◌∙◌, subst, inl, inr, arith, eqb→eq, leb→le, length-set}
-use mathlib.Core.Option.{Option, some, none}
+use Rattle.std.proofs.Common.{◌≡◌, ℕ, suc, ◌+◌, ◌-◌, ◌<◌, ◌≤◌, max, Bool, true, false, ◌&&◌, T, eqb, leb, ◌≢◌, List, length, get_or, set, sym, refl, ◌∙◌, subst, arith, eqb→eq, leb→le, length-set}
+use mathlib.Core.Option.{some, none}
 use Rattle.std.proofs.lemmas.List.{get_or-set_same, get_or-set_other}
 use Rattle.syntax.specs.Base.{pick}
 use Rattle.syntax.specs.Tree.{CommandList, end, next}
 use Rattle.syntax.specs.Stage.{list_stage, and_or_stage}
 use Rattle.grammar.specs.Parser.{level, lookahead, ends_list, is_newline, parse_and_or, terminator_at, parse_list_go, parse_list}
-use Rattle.lexer.specs.Stored.{tokens_of, tokens_from, code_at, Has}
+use Rattle.lexer.specs.Stored.{tokens_from, code_at, Has}
 use Rattle.grammar.proofs.Fit.{by_bool}
-use Rattle.lexer.proofs.Next.{eqb_no, eqb_yes}
-use Rattle.lexer.proofs.Runs.{leb_no, leb_yes}
+use Rattle.lexer.proofs.Next.{eqb_yes}
+use Rattle.lexer.proofs.Runs.{leb_yes}
 use Rattle.reader.specs.Layout.{flag, ListAt}
 use Rattle.reader.specs.Reading.{Made, GotAndOr, GotList}
 use Rattle.reader.proofs.Basics.{max_assoc}

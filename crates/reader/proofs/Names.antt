@@ -1,12 +1,12 @@
 -- Tokens that are names, by their codes.
-use Rattle.std.proofs.Common.{◌≡◌, ℕ, zero, suc, ◌+◌, ◌-◌, ◌*◌, ◌<◌, ◌≤◌, Bool, true, false, not, ◌&&◌, ◌||◌, T, eqb, leb, ◌≢◌, ◌⊎◌, List, [], ◌∷◌, ◌++◌, length, get_or, take, drop, sym, refl, ap, ◌∙◌, subst, inl, inr, arith, eqb→eq, leb→le}
+use Rattle.std.proofs.Common.{◌≡◌, ℕ, zero, suc, ◌+◌, ◌*◌, ◌<◌, ◌≤◌, Bool, true, false, not, ◌&&◌, ◌||◌, T, eqb, leb, ◌≢◌, List, [], ◌∷◌, ◌++◌, length, get_or, take, drop, sym, refl, ap, ◌∙◌, subst, arith, leb→le}
 use mathlib.Core.Option.{Option, some, none}
 use lib.Dec.{nleb→lt}
 use Rattle.syntax.specs.Base.{pick, Name, letter, digit, name_bytes, valid_name}
 use Rattle.grammar.specs.Tokens.{Token, token}
-use Rattle.grammar.specs.Grammar.{Split, split_equals, reserved, listed, sign}
+use Rattle.grammar.specs.Grammar.{Split, split_equals, reserved, listed}
 use Rattle.grammar.specs.Parser.{Deeper, name_go, parse_name, parse_function, after_first}
-use Rattle.lexer.specs.Stored.{index_of, keyword_index, bare_code, assignment_code, word_code, sign_code, token_code_of, token_code, tokens_of, tokens_from, code_at, Has}
+use Rattle.lexer.specs.Stored.{index_of, keyword_index, bare_code, assignment_code, word_code, sign_code, token_code_of, tokens_of, tokens_from, code_at, Has}
 use Rattle.grammar.proofs.Fit.{by_bool}
 use Rattle.lexer.proofs.Runs.{leb_no, leb_yes}
 use Rattle.lexer.proofs.Next.{eqb_no, eqb_yes}

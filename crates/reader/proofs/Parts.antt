@@ -1,20 +1,19 @@
 -- Parts and words.
-use Rattle.std.proofs.Common.{◌≡◌, ℕ, zero, suc, ◌+◌, ◌-◌, ◌*◌, ◌<◌, ◌≤◌, max, Bool, true, false, T, eqb, ◌≢◌, ◌⊎◌, List, [], ◌∷◌, ◌++◌, length, get_or, take, drop, set, sym, refl, ap, ◌∙◌, subst, inl, inr, arith, eqb→eq, length-set}
-use mathlib.Core.Option.{Option, some, none}
+use Rattle.std.proofs.Common.{◌≡◌, ℕ, zero, suc, ◌+◌, ◌-◌, ◌*◌, ◌<◌, ◌≤◌, max, Bool, true, false, ◌≢◌, List, [], ◌∷◌, length, get_or, take, drop, set, sym, refl, ap, ◌∙◌, subst, arith, length-set}
+use mathlib.Core.Option.{some, none}
 use Rattle.std.proofs.lemmas.List.{get_or-set_same, get_or-set_other}
 use Rattle.syntax.specs.Base.{on_some}
-use Rattle.syntax.specs.Tree.{WordPart, literal, parameter, substitution, Word, no_parts, and_part, CommandList}
+use Rattle.syntax.specs.Tree.{WordPart, literal, parameter, substitution, Word, no_parts, and_part}
 use Rattle.grammar.specs.Tokens.{Token, token}
 use Rattle.grammar.specs.Grammar.{sign}
-use Rattle.grammar.specs.Parser.{Parsed, Deeper, level, parse_part_go, parse_part, parse_more_go, parse_more, parse_word, next_joined, expect, parse_substitution, after_first}
-use Rattle.reader.specs.Layout.{BytesAt, PartAt, PartsAt, ListAt, flag}
+use Rattle.grammar.specs.Parser.{Deeper, level, parse_part_go, parse_part, parse_more_go, parse_more, parse_word, next_joined, expect, parse_substitution, after_first}
+use Rattle.reader.specs.Layout.{BytesAt, PartAt, PartsAt, flag}
 use Rattle.lexer.specs.Stored.{token_code, tokens_of, tokens_from, Has, code_at}
 use Rattle.syntax.specs.Stage.{part_stage, word_stage}
-use Rattle.reader.specs.Reading.{part_tag, tag_stage, joins, Made, GotPart, GotMore, GotWord, GotList}
+use Rattle.reader.specs.Reading.{part_tag, tag_stage, joins, GotPart, GotMore, GotWord, GotList}
 use Rattle.reader.proofs.Eats.{eat_sign, eat_no, code_41}
 use Rattle.reader.proofs.Views.{View, v_low, v_run, v_none, view, here, there, glued_is}
-use Rattle.reader.proofs.Basics.{lt_or}
-use Rattle.reader.proofs.Frame.{Same, part_frame}
+use Rattle.reader.proofs.Frame.{part_frame}
 use Rattle.reader.proofs.Chains.{Chain, chain, step, finish, fail}
 
 view_none : {t : ℕ} {b : List ℕ} {k : ℕ} → View t b k → k ≡ 4 → (S : Deeper) (r : List Token) → parse_part_go S t b r ≡ none

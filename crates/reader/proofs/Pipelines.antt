@@ -1,13 +1,13 @@
 -- Pipelines, as chains; a pipeline with or without ! before it.
-use Rattle.std.proofs.Common.{◌≡◌, ℕ, zero, suc, ◌+◌, ◌*◌, ◌<◌, ◌≤◌, max, Bool, true, false, ◌≢◌, List, [], ◌∷◌, length, get_or, set, sym, refl, ap, ◌∙◌, subst, arith, length-set}
-use mathlib.Core.Option.{Option, some, none}
+use Rattle.std.proofs.Common.{◌≡◌, ℕ, ◌+◌, ◌<◌, ◌≤◌, max, true, false, List, length, set, ◌∙◌, arith, length-set}
+use mathlib.Core.Option.{none}
 use Rattle.std.proofs.lemmas.List.{get_or-set_same, get_or-set_other}
-use Rattle.syntax.specs.Tree.{Pipeline, single, piped, AndOr}
+use Rattle.syntax.specs.Tree.{Pipeline, single, piped}
 use Rattle.syntax.specs.Stage.{pipeline_stage}
 use Rattle.grammar.specs.Parser.{level, parse_command, parse_pipeline_go, parse_pipeline, parse_negatable, is_not, lookahead}
-use Rattle.lexer.specs.Stored.{tokens_of, tokens_from, code_at, Has}
-use Rattle.reader.specs.Layout.{flag, PipelineAt}
-use Rattle.reader.specs.Reading.{Made, GotCommand, GotPipeline, GotNegatable}
+use Rattle.lexer.specs.Stored.{tokens_from, code_at, Has}
+use Rattle.reader.specs.Layout.{PipelineAt}
+use Rattle.reader.specs.Reading.{GotCommand, GotPipeline, GotNegatable}
 use Rattle.reader.proofs.Frame.{command_frame}
 use Rattle.reader.proofs.Chains.{Chain, chain, step, close, fail}
 use Rattle.reader.proofs.Expects.{got_pipe_sign, no_pipe_sign, got_not, no_not}

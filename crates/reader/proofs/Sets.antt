@@ -1,13 +1,13 @@
 -- Words that set names.
-use Rattle.std.proofs.Common.{◌≡◌, ℕ, zero, suc, ◌+◌, ◌-◌, ◌*◌, ◌<◌, ◌≤◌, Bool, true, false, not, ◌&&◌, T, eqb, leb, ◌≢◌, ◌⊎◌, List, [], ◌∷◌, ◌++◌, length, get_or, take, drop, sym, refl, ap, ◌∙◌, subst, inl, inr, arith, eqb→eq, leb→le}
+use Rattle.std.proofs.Common.{◌≡◌, ℕ, zero, suc, ◌+◌, ◌<◌, Bool, true, false, not, T, eqb, leb, List, [], ◌∷◌, ◌++◌, length, get_or, sym, refl, ap, ◌∙◌, subst, arith, eqb→eq}
 use mathlib.Core.Option.{Option, some, none}
 use lib.Dec.{nleb→lt}
 use Rattle.std.proofs.lemmas.List.{append_assoc}
-use Rattle.syntax.specs.Base.{pick, opt, same, Name, valid_name}
-use Rattle.grammar.specs.Tokens.{Token, token}
+use Rattle.syntax.specs.Base.{pick, valid_name}
+use Rattle.grammar.specs.Tokens.{Token}
 use Rattle.grammar.specs.Grammar.{Split, split_equals, reserved}
 use Rattle.grammar.specs.Parser.{split_ok, assignment_go, assignment_at}
-use Rattle.lexer.specs.Stored.{index_of, keyword_index, bare_code, assignment_code, word_code, sign_code, token_code_of, token_code, code_at}
+use Rattle.lexer.specs.Stored.{index_of, keyword_index, bare_code, assignment_code, word_code, token_code_of, code_at}
 use Rattle.grammar.proofs.Fit.{by_bool}
 use Rattle.grammar.proofs.Find.{some_is}
 use Rattle.reader.proofs.Basics.{not_none}

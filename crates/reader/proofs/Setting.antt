@@ -1,21 +1,21 @@
 -- Assignments, as a chain.
-use Rattle.std.proofs.Common.{◌≡◌, ℕ, zero, suc, ◌+◌, ◌-◌, ◌*◌, ◌<◌, ◌≤◌, max, Bool, true, false, ◌≢◌, ◌⊎◌, List, [], ◌∷◌, ◌++◌, length, get_or, take, drop, set, sym, refl, ap, ◌∙◌, subst, inl, inr, arith, length-set}
-use mathlib.Core.Option.{Option, some, none}
+use Rattle.std.proofs.Common.{◌≡◌, ℕ, zero, suc, ◌+◌, ◌-◌, ◌*◌, ◌<◌, ◌≤◌, max, false, List, [], ◌∷◌, ◌++◌, length, get_or, take, drop, set, sym, refl, ap, ◌∙◌, subst, arith, length-set}
+use mathlib.Core.Option.{some, none}
 use Rattle.std.proofs.lemmas.List.{get_or-set_same, get_or-set_other, drop_all, drop_more, take-take, take_at, drop_at, drop-take, drop-drop, length-append, length-take, length-drop}
-use Rattle.syntax.specs.Base.{on_some, opt}
+use Rattle.syntax.specs.Base.{on_some}
 use Rattle.syntax.specs.Tree.{Word, and_part, literal, Assignments, no_assignments, assign}
 use Rattle.grammar.specs.Tokens.{Token, token}
 use Rattle.grammar.specs.Grammar.{Split, put_before}
-use Rattle.grammar.specs.Parser.{Parsed, Deeper, level, parse_more, parse_assignments_go, parse_assignments, assignment_at, after_first}
-use Rattle.reader.specs.Layout.{BytesAt, PartAt, PartsAt, AssignmentsAt}
+use Rattle.grammar.specs.Parser.{Parsed, level, parse_more, parse_assignments_go, parse_assignments, assignment_at, after_first}
+use Rattle.reader.specs.Layout.{BytesAt, PartsAt, AssignmentsAt}
 use Rattle.lexer.specs.Stored.{tokens_of, tokens_from, Has, code_at}
 use Rattle.syntax.specs.Stage.{word_stage, assignments_stage, has_wildcard}
 use Rattle.syntax.specs.Base.{pick}
-use Rattle.reader.specs.Reading.{Made, GotMore, GotValue, value_of, GotAssignments}
+use Rattle.reader.specs.Reading.{GotMore, GotValue, value_of, GotAssignments}
 use Rattle.reader.proofs.Views.{here, there}
 use Rattle.reader.proofs.Basics.{not_none}
 use Rattle.grammar.proofs.Find.{some_is}
-use Rattle.reader.proofs.Frame.{Same, parts_frame}
+use Rattle.reader.proofs.Frame.{parts_frame}
 use Rattle.reader.proofs.Sets.{SetAt, none_at, some_at, set_is, bytes1, tag1}
 use Rattle.reader.proofs.Chains.{Chain, chain, step, finish, fail}
 

@@ -1,17 +1,17 @@
 -- Where words end, and arrows.
-use Rattle.std.proofs.Common.{◌≡◌, ℕ, zero, suc, ◌+◌, ◌-◌, ◌<◌, ◌≤◌, Bool, true, false, not, ◌&&◌, ◌||◌, T, eqb, leb, ◌≢◌, ◌⊎◌, List, [], ◌∷◌, ◌++◌, length, get_or, sym, refl, ap, ◌∙◌, subst, inl, inr, arith}
-use mathlib.Core.Option.{Option, some, none}
+use Rattle.std.proofs.Common.{◌≡◌, ℕ, zero, suc, ◌+◌, ◌<◌, ◌≤◌, Bool, true, false, not, ◌&&◌, T, leb, ◌≢◌, ◌⊎◌, List, [], ◌∷◌, length, sym, refl, ◌∙◌, subst, inl, inr, arith}
+use mathlib.Core.Option.{some, none}
 use Rattle.syntax.specs.Base.{pick, same, Name}
-use Rattle.grammar.specs.Tokens.{Token, token}
+use Rattle.grammar.specs.Tokens.{Token}
 use Rattle.grammar.specs.Grammar.{sign}
 use Rattle.grammar.specs.Parser.{Lookahead, la_part, la_odd, Entry, look_up, keyword_table, sign_table, lookahead, lookahead_of, no_word, next_joined, expect, redirect_at, after_first}
-use Rattle.lexer.specs.Stored.{index_of, sign_names, sign_code, bare_code, token_code_of, token_code, code_at}
+use Rattle.lexer.specs.Stored.{index_of, sign_names, sign_code, token_code_of, code_at}
 use Rattle.syntax.specs.Tree.{RedirectKind, input, output, append, here}
 use Rattle.reader.specs.Layout.{kind_code}
 use Rattle.reader.specs.Reading.{ends_words}
 use Rattle.grammar.proofs.Fit.{by_bool}
 use Rattle.lexer.proofs.Runs.{leb_no, leb_yes}
-use Rattle.lexer.proofs.Next.{eqb_no, eqb_yes}
+use Rattle.lexer.proofs.Next.{eqb_no}
 use Rattle.reader.proofs.Views.{Bare, b_none, b_name, b_key, b_set, bare_in}
 use Rattle.reader.proofs.Eats.{eat_no, eat_sign}
 

@@ -1,16 +1,15 @@
 -- Simple commands.
-use Rattle.std.proofs.Common.{◌≡◌, ℕ, zero, suc, ◌+◌, ◌-◌, ◌*◌, ◌<◌, ◌≤◌, max, Bool, true, false, ◌≢◌, List, [], ◌∷◌, ◌++◌, length, get_or, take, drop, set, sym, refl, ap, ◌∙◌, subst, arith, length-set}
-use mathlib.Core.Option.{Option, some, none}
+use Rattle.std.proofs.Common.{◌≡◌, ℕ, ◌+◌, ◌<◌, ◌≤◌, Bool, true, false, ◌≢◌, List, [], length, get_or, set, sym, refl, ap, ◌∙◌, subst, arith, length-set}
+use mathlib.Core.Option.{some, none}
 use Rattle.std.proofs.lemmas.List.{get_or-set_same, get_or-set_other}
-use Rattle.syntax.specs.Base.{on_some, pick}
-use Rattle.syntax.specs.Tree.{Word, Words, no_words, and_word, Assignments, no_assignments, assign, Redirects, no_redirects, Command, simple}
+use Rattle.syntax.specs.Tree.{Word, no_words, and_word, Assignments, no_assignments, assign, no_redirects, simple}
 use Rattle.grammar.specs.Tokens.{Token, token}
-use Rattle.grammar.specs.Parser.{Parsed, Deeper, level, parse_assignments, parse_word, parse_words, parse_redirects, parse_simple, assignments_alone, first_word_fits, no_word, lookahead, next_joined, after_first}
-use Rattle.reader.specs.Layout.{AssignmentsAt, WordsAt, RedirectsAt, CommandAt, PartsAt}
+use Rattle.grammar.specs.Parser.{Parsed, level, parse_word, parse_words, parse_redirects, parse_simple, assignments_alone, first_word_fits, no_word, lookahead, next_joined}
+use Rattle.reader.specs.Layout.{AssignmentsAt}
 use Rattle.lexer.specs.Stored.{tokens_of, tokens_from, Has, code_at}
-use Rattle.reader.specs.Reading.{ends_words, joins, may_be_first, Made, GotAssignments, GotWord, GotWords, GotRedirects, GotCommand}
+use Rattle.reader.specs.Reading.{ends_words, joins, may_be_first, GotAssignments, GotWord, GotWords, GotRedirects, GotCommand}
 use Rattle.reader.proofs.Views.{here, there, glued_is}
-use Rattle.reader.proofs.Frame.{Same, parts_frame, assignments_frame, words_frame}
+use Rattle.reader.proofs.Frame.{parts_frame, assignments_frame, words_frame}
 use Rattle.reader.proofs.Signs.{ends_is}
 use Rattle.reader.proofs.Basics.{max_assoc}
 use Rattle.reader.proofs.First.{first_is}

@@ -1,8 +1,8 @@
 -- Bytes that raise the stage.
-use Rattle.std.proofs.Common.{◌≡◌, ℕ, zero, suc, ◌+◌, ◌-◌, ◌<◌, ◌≤◌, Bool, true, false, ◌&&◌, ◌||◌, eqb, leb, ◌≢◌, List, [], ◌∷◌, length, get_or, take, drop, sym, refl, ap, ◌∙◌, subst, arith}
+use Rattle.std.proofs.Common.{◌≡◌, ℕ, zero, suc, ◌+◌, ◌-◌, ◌<◌, ◌≤◌, true, false, ◌&&◌, ◌||◌, eqb, leb, ◌≢◌, List, [], ◌∷◌, length, get_or, take, drop, refl, arith}
 use Rattle.std.proofs.lemmas.List.{drop_all, drop_more}
 use Rattle.syntax.specs.Stage.{positional, has_wildcard}
-use Rattle.lexer.proofs.Next.{eqb_no, eqb_yes}
+use Rattle.lexer.proofs.Next.{eqb_no}
 
 take_nil : (l : ℕ) → take {A = ℕ} l [] ≡ []
 take_nil zero = refl

@@ -1,16 +1,16 @@
 -- What the number of a token says of its token.
-use Rattle.std.proofs.Common.{◌≡◌, ℕ, zero, suc, ◌+◌, ◌-◌, ◌*◌, ◌<◌, ◌≤◌, Bool, true, false, not, ◌&&◌, ◌||◌, T, eqb, leb, ◌≢◌, ◌⊎◌, List, [], ◌∷◌, ◌++◌, length, get_or, take, drop, set, sym, refl, ap, ◌∙◌, subst, inl, inr, arith}
+use Rattle.std.proofs.Common.{◌≡◌, ℕ, zero, suc, ◌+◌, ◌*◌, ◌<◌, ◌≤◌, Bool, true, false, not, ◌&&◌, T, leb, List, [], ◌∷◌, length, get_or, sym, refl, subst, arith}
 use mathlib.Core.Option.{Option, some, none}
-use Rattle.std.proofs.lemmas.List.{drop_all, drop_more, get_or-set_other}
+use Rattle.std.proofs.lemmas.List.{drop_all, drop_more}
 use Rattle.syntax.specs.Base.{pick, same, Name, valid_name}
 use Rattle.grammar.specs.Tokens.{Token, token}
-use Rattle.grammar.specs.Grammar.{split_equals, Split, reserved}
+use Rattle.grammar.specs.Grammar.{split_equals, Split}
 use Rattle.grammar.specs.Parser.{Deeper, parse_part_go, next_joined}
-use Rattle.lexer.specs.Stored.{index_of, keyword_index, bare_code, assignment_code, word_code, sign_code, sign_names, substitution_code, token_code_of, token_code, TokensAt, TokenAt, Spelled, tokens_of, tokens_from, code_at, Has}
-use Rattle.reader.specs.Reading.{part_tag, low_tag, joins}
+use Rattle.lexer.specs.Stored.{index_of, keyword_index, bare_code, assignment_code, word_code, sign_code, sign_names, token_code_of, token_code, tokens_of, tokens_from, code_at, Has}
+use Rattle.reader.specs.Reading.{part_tag, joins}
 use Rattle.grammar.proofs.Fit.{by_bool}
 use Rattle.lexer.proofs.Runs.{leb_no, leb_yes}
-use Rattle.lexer.proofs.Next.{eqb_no, eqb_yes}
+use Rattle.lexer.proofs.Next.{eqb_no}
 
 index_le : (b : Name) (ks : List Name) → index_of b ks ≤ length ks
 index_le b [] = omega arith

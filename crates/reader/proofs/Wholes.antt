@@ -1,16 +1,15 @@
 -- A whole text.
-use Rattle.std.proofs.Common.{◌≡◌, ℕ, zero, suc, ◌+◌, ◌*◌, ◌<◌, ◌≤◌, max, Bool, true, false, ◌&&◌, T, leb, ◌≢◌, ◌⊎◌, List, [], ◌∷◌, length, get_or, take, drop, sym, refl, ap, ◌∙◌, subst, inl, inr, arith, leb→le}
-use mathlib.Core.Option.{Option, some, none}
-use Rattle.std.proofs.lemmas.List.{get_or-take, length-take-le}
+use Rattle.std.proofs.Common.{◌≡◌, ℕ, ◌+◌, ◌<◌, ◌≤◌, max, Bool, true, false, ◌&&◌, T, leb, List, ◌∷◌, length, get_or, take, sym, refl, ap, ◌∙◌, arith, leb→le}
+use mathlib.Core.Option.{some, none}
+use Rattle.std.proofs.lemmas.List.{get_or-take}
 use Rattle.syntax.specs.Tree.{CommandList}
 use Rattle.syntax.specs.Stage.{list_stage}
-use Rattle.grammar.specs.Tokens.{Token, token, tokens, start}
+use Rattle.grammar.specs.Tokens.{Token, tokens, start}
 use Rattle.grammar.specs.Grammar.{Parses}
-use Rattle.grammar.specs.Parser.{Parsed, level, whole, parse}
+use Rattle.grammar.specs.Parser.{level, whole, parse}
 use Rattle.grammar.proofs.Both.{parser_agrees}
-use Rattle.grammar.proofs.Find.{some_is}
 use Rattle.lexer.specs.Stored.{tokens_of, tokens_from, Has}
-use Rattle.reader.specs.Reading.{Made, GotList}
+use Rattle.reader.specs.Reading.{GotList}
 use Rattle.reader.specs.Answer.{IsProgram, NoProgram}
 use Rattle.reader.proofs.Basics.{not_none}
 use Rattle.reader.proofs.Frame.{list_frame}

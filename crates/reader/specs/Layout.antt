@@ -1,7 +1,7 @@
 -- Trees as code, with the bounds between which each node's words stand. Chains are cells whose first word links to the
 -- next; 0 is the end. Bytes are given by where they start in the text and how many they are.
-use Rattle.std.specs.Prelude.{◌≡◌, ℕ, ◌+◌, ◌<◌, ◌≤◌, Bool, true, false, List, length, take, drop, slice_index}
-use Rattle.syntax.specs.Base.{pick, Name}
+use Rattle.std.specs.Prelude.{◌≡◌, ℕ, ◌+◌, ◌<◌, ◌≤◌, Bool, List, take, drop, slice_index}
+use Rattle.syntax.specs.Base.{pick}
 use Rattle.syntax.specs.Tree.{WordPart, literal, parameter, substitution, Word, no_parts, and_part, Words, no_words, and_word, Assignments, no_assignments, assign, RedirectKind, input, output, append, here, Redirects, no_redirects, redirect, Command, simple, group, subshell, if, while, for, case, function, ElsePart, no_else, else, Arms, no_arms, arm, Pipeline, single, piped, AndOr, first, joined, CommandList, end, next}
 
 abbrev pub flag : Bool → ℕ

@@ -1,10 +1,9 @@
 -- What a parsing function makes: a tree, where it ends, its code and its stage.
 use Rattle.std.specs.Prelude.{◌≡◌, ℕ, zero, suc, ◌+◌, ◌-◌, ◌*◌, ◌<◌, ◌≤◌, max, Bool, true, false, ◌&&◌, ◌||◌, ◌≢◌, List, [], ◌∷◌, length, take, drop, ◌==◌, nat_le, slice_index, slice_index_or}
-use Rattle.std.proofs.Math.Option.{Option, some, none}
+use Rattle.std.proofs.Math.Option.{some}
 use Rattle.syntax.specs.Base.{pick, on_some}
 use Rattle.syntax.specs.Tree.{WordPart, Word, Words, Assignments, Redirects, Command, ElsePart, Arms, Pipeline, AndOr, CommandList}
 use Rattle.syntax.specs.Stage.{positional, has_wildcard, part_stage, word_stage, words_stage, assignments_stage, redirects_stage, command_stage, else_stage, arms_stage, pipeline_stage, and_or_stage, list_stage}
-use Rattle.grammar.specs.Tokens.{Token}
 use Rattle.grammar.specs.Grammar.{put_before}
 use Rattle.grammar.specs.Parser.{Parsed, level, parse_part, parse_more, parse_word, parse_words, parse_assignments, parse_redirects, parse_arms, parse_pipeline, parse_negatable, parse_and_or, Lookahead, la_end, la_odd, la_part, Entry, keyword_table, sign_table}
 use Rattle.lexer.specs.Stored.{tokens_from, Has}

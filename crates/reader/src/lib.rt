@@ -1,4 +1,6 @@
 //! From a text to code: a recursive-descent parser over the tokens of the text, which writes the tree as words.
+#![tactic(auto)]
+
 ghost use Rattle.std.specs.Prelude.{◌≡◌, ℕ, ◌+◌, ◌-◌, ◌*◌, ◌<◌, ◌≤◌, max, true, false, ◌&&◌, ◌||◌, ◌⊎◌, List, [], ◌∷◌, length, take, drop, Ok, Err, ◌==◌, ◌≢◌, nat_le};
 ghost use Rattle.grammar.specs.Parser.{function_at, la_paren, level, lookahead, open_brace, open_case, open_for, open_if, open_while, parse_and_or, parse_arms, parse_assignments, parse_command, parse_command_by, parse_function, parse_more, parse_negatable, parse_opener, parse_part, parse_pipeline, parse_redirects, parse_simple, parse_word, parse_words};
 ghost use Rattle.lexer.specs.Stored.{Has, code_at, tokens_from};

@@ -1,9 +1,8 @@
-use Rattle.std.proofs.Common.{◌≡◌, ℕ, ◌+◌, ◌-◌, max, Bool, true, false, length, get_or, take, drop, sym, refl, ap, ◌∙◌, subst, inl, inr, arith, rules}
-use mathlib.Core.Option.{none}
+use Rattle.std.proofs.Common.{◌+◌, ◌-◌, sym, ap, ◌∙◌, inl, inr, arith}
 use Rattle.std.proofs.lemmas.Result.{err_from_is_err_and}
 use Rattle.grammar.specs.Parser.{level, parse_command, parse_command_by, parse_function, parse_simple, parse_opener, la_paren, open_if, open_while, open_for, open_case, open_brace, ends_list, is_newline, is_not}
-use Rattle.lexer.specs.Stored.{tokens_from, code_at}
-use Rattle.reader.proofs.AndOrs.{joining, and_or_end, and_or_fail, and_or_step, rebased, negated_kept, joining_at}
+use Rattle.lexer.specs.Stored.{tokens_from}
+use Rattle.reader.proofs.AndOrs.{and_or_end, and_or_fail, and_or_step, rebased, negated_kept, joining_at}
 use Rattle.lexer.proofs.Lexing.{code_out}
 use Rattle.reader.proofs.ArmChains.{arms_hold, arms_blank, arms_end, arms_1, arms_2, arms_3, arms_4, arms_step}
 use Rattle.reader.proofs.Setting.{assignments_hold, assignments_end, assignments_over, assignments_fail, assignments_step, set_bounds, value_none, value_empty, value_part, take_no, take_past}
@@ -110,53 +109,53 @@ case_command-returns t c = case_got c.args.text.now c.args.n c.args.from.at c.ar
 pub command-returns-then-from-n : goal.command-returns-then-from-n
 command-returns-then-from-n t c = ended_none {n = c.args.n} {m = c.args.tokens.now} (level c.args.left) c.args.from.at c.requires.0.has (omega arith)
 
-pub command-returns-in_err-c : goal.command-returns-in_err-c
-command-returns-in_err-c t c = let p = err_from_is_err_and c.from_residual.result c.from_residual.ensures.1 in rw p.1 ((command_by (level c.args.left) (tokens_from c.args.text.now c.args.from.at) c.look.result Part c.look.ensures c.in-Part.is ∙ part_function (level c.args.left) (tokens_from c.args.text.now c.args.from.at) (sym c.if-names_function.ensures)) ∙ c.in_err-c.ensures)
+pub command-returns-in_err-c-in-Part : goal.command-returns-in_err-c-in-Part
+command-returns-in_err-c-in-Part t c = let p = err_from_is_err_and c.from_residual.result c.from_residual.ensures.1 in rw p.1 ((command_by (level c.args.left) (tokens_from c.args.text.now c.args.from.at) c.look.result Part c.look.ensures c.in-Part.is ∙ part_function (level c.args.left) (tokens_from c.args.text.now c.args.from.at) (sym c.if-names_function.ensures)) ∙ c.in_err-c-in-Part.ensures)
 
 pub command-returns-then-names_function : goal.command-returns-then-names_function
-command-returns-then-names_function t c = command_as c.args.text.now c.args.n c.args.from.at (parse_function (level c.args.left) (tokens_from c.args.text.now c.args.from.at)) (parse_command (level c.args.left) (tokens_from c.args.text.now c.args.from.at)) c.args.code.now _ c.args.from.free _ _ c.args.from.stage _ (command_by (level c.args.left) (tokens_from c.args.text.now c.args.from.at) c.look.result Part c.look.ensures c.in-Part.is ∙ part_function (level c.args.left) (tokens_from c.args.text.now c.args.from.at) (sym c.if-names_function.ensures)) c.in_ok-c.ensures
+command-returns-then-names_function t c = command_as c.args.text.now c.args.n c.args.from.at (parse_function (level c.args.left) (tokens_from c.args.text.now c.args.from.at)) (parse_command (level c.args.left) (tokens_from c.args.text.now c.args.from.at)) c.args.code.now _ c.args.from.free _ _ c.args.from.stage _ (command_by (level c.args.left) (tokens_from c.args.text.now c.args.from.at) c.look.result Part c.look.ensures c.in-Part.is ∙ part_function (level c.args.left) (tokens_from c.args.text.now c.args.from.at) (sym c.if-names_function.ensures)) c.in_ok-c-in-Part.ensures
 
-pub command-returns-in_err-c-2 : goal.command-returns-in_err-c-2
-command-returns-in_err-c-2 t c = let p = err_from_is_err_and c.from_residual-in_err-c-2.result c.from_residual-in_err-c-2.ensures.1 in rw p.1 ((command_by (level c.args.left) (tokens_from c.args.text.now c.args.from.at) c.look.result Part c.look.ensures c.in-Part.is ∙ part_simple (level c.args.left) (tokens_from c.args.text.now c.args.from.at) (sym c.if-names_function.ensures)) ∙ c.in_err-c-2.ensures)
+pub command-returns-in_err-c-in-Part-2 : goal.command-returns-in_err-c-in-Part-2
+command-returns-in_err-c-in-Part-2 t c = let p = err_from_is_err_and c.from_residual-in_err-c-in-Part-2.result c.from_residual-in_err-c-in-Part-2.ensures.1 in rw p.1 ((command_by (level c.args.left) (tokens_from c.args.text.now c.args.from.at) c.look.result Part c.look.ensures c.in-Part.is ∙ part_simple (level c.args.left) (tokens_from c.args.text.now c.args.from.at) (sym c.if-names_function.ensures)) ∙ c.in_err-c-in-Part-2.ensures)
 
 pub command-returns-in-Part : goal.command-returns-in-Part
-command-returns-in-Part t c = command_as c.args.text.now c.args.n c.args.from.at (parse_simple (level c.args.left) (tokens_from c.args.text.now c.args.from.at)) (parse_command (level c.args.left) (tokens_from c.args.text.now c.args.from.at)) c.args.code.now _ c.args.from.free _ _ c.args.from.stage _ (command_by (level c.args.left) (tokens_from c.args.text.now c.args.from.at) c.look.result Part c.look.ensures c.in-Part.is ∙ part_simple (level c.args.left) (tokens_from c.args.text.now c.args.from.at) (sym c.if-names_function.ensures)) c.in_ok-c-2.ensures
+command-returns-in-Part t c = command_as c.args.text.now c.args.n c.args.from.at (parse_simple (level c.args.left) (tokens_from c.args.text.now c.args.from.at)) (parse_command (level c.args.left) (tokens_from c.args.text.now c.args.from.at)) c.args.code.now _ c.args.from.free _ _ c.args.from.stage _ (command_by (level c.args.left) (tokens_from c.args.text.now c.args.from.at) c.look.result Part c.look.ensures c.in-Part.is ∙ part_simple (level c.args.left) (tokens_from c.args.text.now c.args.from.at) (sym c.if-names_function.ensures)) c.in_ok-c-in-Part-2.ensures
 
-pub command-returns-in_err-c-3 : goal.command-returns-in_err-c-3
-command-returns-in_err-c-3 t c = let p = err_from_is_err_and c.from_residual-in_err-c-3.result c.from_residual-in_err-c-3.ensures.1 in rw p.1 ((command_by (level c.args.left) (tokens_from c.args.text.now c.args.from.at) c.look.result Paren c.look.ensures c.in-Paren.is) ∙ c.in_err-c-3.ensures)
+pub command-returns-in_err-c-in-Paren : goal.command-returns-in_err-c-in-Paren
+command-returns-in_err-c-in-Paren t c = let p = err_from_is_err_and c.from_residual-in_err-c-in-Paren.result c.from_residual-in_err-c-in-Paren.ensures.1 in rw p.1 ((command_by (level c.args.left) (tokens_from c.args.text.now c.args.from.at) c.look.result Paren c.look.ensures c.in-Paren.is) ∙ c.in_err-c-in-Paren.ensures)
 
 pub command-returns-in-Paren : goal.command-returns-in-Paren
-command-returns-in-Paren t c = command_as c.args.text.now c.args.n c.args.from.at (parse_command_by (level c.args.left) la_paren (tokens_from c.args.text.now c.args.from.at)) (parse_command (level c.args.left) (tokens_from c.args.text.now c.args.from.at)) c.args.code.now _ c.args.from.free _ _ c.args.from.stage _ (command_by (level c.args.left) (tokens_from c.args.text.now c.args.from.at) c.look.result Paren c.look.ensures c.in-Paren.is) c.in_ok-c-3.ensures
+command-returns-in-Paren t c = command_as c.args.text.now c.args.n c.args.from.at (parse_command_by (level c.args.left) la_paren (tokens_from c.args.text.now c.args.from.at)) (parse_command (level c.args.left) (tokens_from c.args.text.now c.args.from.at)) c.args.code.now _ c.args.from.free _ _ c.args.from.stage _ (command_by (level c.args.left) (tokens_from c.args.text.now c.args.from.at) c.look.result Paren c.look.ensures c.in-Paren.is) c.in_ok-c-in-Paren.ensures
 
-pub command-returns-in_err-c-4 : goal.command-returns-in_err-c-4
-command-returns-in_err-c-4 t c = let p = err_from_is_err_and c.from_residual-in_err-c-4.result c.from_residual-in_err-c-4.ensures.1 in rw p.1 ((command_by (level c.args.left) (tokens_from c.args.text.now c.args.from.at) c.look.result If c.look.ensures c.in-If.is) ∙ c.in_err-c-4.ensures)
+pub command-returns-in_err-c-in-If : goal.command-returns-in_err-c-in-If
+command-returns-in_err-c-in-If t c = let p = err_from_is_err_and c.from_residual-in_err-c-in-If.result c.from_residual-in_err-c-in-If.ensures.1 in rw p.1 ((command_by (level c.args.left) (tokens_from c.args.text.now c.args.from.at) c.look.result If c.look.ensures c.in-If.is) ∙ c.in_err-c-in-If.ensures)
 
 pub command-returns-in-If : goal.command-returns-in-If
-command-returns-in-If t c = command_as c.args.text.now c.args.n c.args.from.at (parse_opener (level c.args.left) open_if (tokens_from c.args.text.now c.args.from.at)) (parse_command (level c.args.left) (tokens_from c.args.text.now c.args.from.at)) c.args.code.now _ c.args.from.free _ _ c.args.from.stage _ (command_by (level c.args.left) (tokens_from c.args.text.now c.args.from.at) c.look.result If c.look.ensures c.in-If.is) c.in_ok-c-4.ensures
+command-returns-in-If t c = command_as c.args.text.now c.args.n c.args.from.at (parse_opener (level c.args.left) open_if (tokens_from c.args.text.now c.args.from.at)) (parse_command (level c.args.left) (tokens_from c.args.text.now c.args.from.at)) c.args.code.now _ c.args.from.free _ _ c.args.from.stage _ (command_by (level c.args.left) (tokens_from c.args.text.now c.args.from.at) c.look.result If c.look.ensures c.in-If.is) c.in_ok-c-in-If.ensures
 
-pub command-returns-in_err-c-5 : goal.command-returns-in_err-c-5
-command-returns-in_err-c-5 t c = let p = err_from_is_err_and c.from_residual-in_err-c-5.result c.from_residual-in_err-c-5.ensures.1 in rw p.1 ((command_by (level c.args.left) (tokens_from c.args.text.now c.args.from.at) c.look.result While c.look.ensures c.in-While.is) ∙ c.in_err-c-5.ensures)
+pub command-returns-in_err-c-in-While : goal.command-returns-in_err-c-in-While
+command-returns-in_err-c-in-While t c = let p = err_from_is_err_and c.from_residual-in_err-c-in-While.result c.from_residual-in_err-c-in-While.ensures.1 in rw p.1 ((command_by (level c.args.left) (tokens_from c.args.text.now c.args.from.at) c.look.result While c.look.ensures c.in-While.is) ∙ c.in_err-c-in-While.ensures)
 
 pub command-returns-in-While : goal.command-returns-in-While
-command-returns-in-While t c = command_as c.args.text.now c.args.n c.args.from.at (parse_opener (level c.args.left) open_while (tokens_from c.args.text.now c.args.from.at)) (parse_command (level c.args.left) (tokens_from c.args.text.now c.args.from.at)) c.args.code.now _ c.args.from.free _ _ c.args.from.stage _ (command_by (level c.args.left) (tokens_from c.args.text.now c.args.from.at) c.look.result While c.look.ensures c.in-While.is) c.in_ok-c-5.ensures
+command-returns-in-While t c = command_as c.args.text.now c.args.n c.args.from.at (parse_opener (level c.args.left) open_while (tokens_from c.args.text.now c.args.from.at)) (parse_command (level c.args.left) (tokens_from c.args.text.now c.args.from.at)) c.args.code.now _ c.args.from.free _ _ c.args.from.stage _ (command_by (level c.args.left) (tokens_from c.args.text.now c.args.from.at) c.look.result While c.look.ensures c.in-While.is) c.in_ok-c-in-While.ensures
 
-pub command-returns-in_err-c-6 : goal.command-returns-in_err-c-6
-command-returns-in_err-c-6 t c = let p = err_from_is_err_and c.from_residual-in_err-c-6.result c.from_residual-in_err-c-6.ensures.1 in rw p.1 ((command_by (level c.args.left) (tokens_from c.args.text.now c.args.from.at) c.look.result For c.look.ensures c.in-For.is) ∙ c.in_err-c-6.ensures)
+pub command-returns-in_err-c-in-For : goal.command-returns-in_err-c-in-For
+command-returns-in_err-c-in-For t c = let p = err_from_is_err_and c.from_residual-in_err-c-in-For.result c.from_residual-in_err-c-in-For.ensures.1 in rw p.1 ((command_by (level c.args.left) (tokens_from c.args.text.now c.args.from.at) c.look.result For c.look.ensures c.in-For.is) ∙ c.in_err-c-in-For.ensures)
 
 pub command-returns-in-For : goal.command-returns-in-For
-command-returns-in-For t c = command_as c.args.text.now c.args.n c.args.from.at (parse_opener (level c.args.left) open_for (tokens_from c.args.text.now c.args.from.at)) (parse_command (level c.args.left) (tokens_from c.args.text.now c.args.from.at)) c.args.code.now _ c.args.from.free _ _ c.args.from.stage _ (command_by (level c.args.left) (tokens_from c.args.text.now c.args.from.at) c.look.result For c.look.ensures c.in-For.is) c.in_ok-c-6.ensures
+command-returns-in-For t c = command_as c.args.text.now c.args.n c.args.from.at (parse_opener (level c.args.left) open_for (tokens_from c.args.text.now c.args.from.at)) (parse_command (level c.args.left) (tokens_from c.args.text.now c.args.from.at)) c.args.code.now _ c.args.from.free _ _ c.args.from.stage _ (command_by (level c.args.left) (tokens_from c.args.text.now c.args.from.at) c.look.result For c.look.ensures c.in-For.is) c.in_ok-c-in-For.ensures
 
-pub command-returns-in_err-c-7 : goal.command-returns-in_err-c-7
-command-returns-in_err-c-7 t c = let p = err_from_is_err_and c.from_residual-in_err-c-7.result c.from_residual-in_err-c-7.ensures.1 in rw p.1 ((command_by (level c.args.left) (tokens_from c.args.text.now c.args.from.at) c.look.result Case c.look.ensures c.in-Case.is) ∙ c.in_err-c-7.ensures)
+pub command-returns-in_err-c-in-Case : goal.command-returns-in_err-c-in-Case
+command-returns-in_err-c-in-Case t c = let p = err_from_is_err_and c.from_residual-in_err-c-in-Case.result c.from_residual-in_err-c-in-Case.ensures.1 in rw p.1 ((command_by (level c.args.left) (tokens_from c.args.text.now c.args.from.at) c.look.result Case c.look.ensures c.in-Case.is) ∙ c.in_err-c-in-Case.ensures)
 
 pub command-returns-in-Case : goal.command-returns-in-Case
-command-returns-in-Case t c = command_as c.args.text.now c.args.n c.args.from.at (parse_opener (level c.args.left) open_case (tokens_from c.args.text.now c.args.from.at)) (parse_command (level c.args.left) (tokens_from c.args.text.now c.args.from.at)) c.args.code.now _ c.args.from.free _ _ c.args.from.stage _ (command_by (level c.args.left) (tokens_from c.args.text.now c.args.from.at) c.look.result Case c.look.ensures c.in-Case.is) c.in_ok-c-7.ensures
+command-returns-in-Case t c = command_as c.args.text.now c.args.n c.args.from.at (parse_opener (level c.args.left) open_case (tokens_from c.args.text.now c.args.from.at)) (parse_command (level c.args.left) (tokens_from c.args.text.now c.args.from.at)) c.args.code.now _ c.args.from.free _ _ c.args.from.stage _ (command_by (level c.args.left) (tokens_from c.args.text.now c.args.from.at) c.look.result Case c.look.ensures c.in-Case.is) c.in_ok-c-in-Case.ensures
 
-pub command-returns-in_err-c-8 : goal.command-returns-in_err-c-8
-command-returns-in_err-c-8 t c = let p = err_from_is_err_and c.from_residual-in_err-c-8.result c.from_residual-in_err-c-8.ensures.1 in rw p.1 ((command_by (level c.args.left) (tokens_from c.args.text.now c.args.from.at) c.look.result Brace c.look.ensures c.in-Brace.is) ∙ c.in_err-c-8.ensures)
+pub command-returns-in_err-c-in-Brace : goal.command-returns-in_err-c-in-Brace
+command-returns-in_err-c-in-Brace t c = let p = err_from_is_err_and c.from_residual-in_err-c-in-Brace.result c.from_residual-in_err-c-in-Brace.ensures.1 in rw p.1 ((command_by (level c.args.left) (tokens_from c.args.text.now c.args.from.at) c.look.result Brace c.look.ensures c.in-Brace.is) ∙ c.in_err-c-in-Brace.ensures)
 
 pub command-returns-in-Brace : goal.command-returns-in-Brace
-command-returns-in-Brace t c = command_as c.args.text.now c.args.n c.args.from.at (parse_opener (level c.args.left) open_brace (tokens_from c.args.text.now c.args.from.at)) (parse_command (level c.args.left) (tokens_from c.args.text.now c.args.from.at)) c.args.code.now _ c.args.from.free _ _ c.args.from.stage _ (command_by (level c.args.left) (tokens_from c.args.text.now c.args.from.at) c.look.result Brace c.look.ensures c.in-Brace.is) c.in_ok-c-8.ensures
+command-returns-in-Brace t c = command_as c.args.text.now c.args.n c.args.from.at (parse_opener (level c.args.left) open_brace (tokens_from c.args.text.now c.args.from.at)) (parse_command (level c.args.left) (tokens_from c.args.text.now c.args.from.at)) c.args.code.now _ c.args.from.free _ _ c.args.from.stage _ (command_by (level c.args.left) (tokens_from c.args.text.now c.args.from.at) c.look.result Brace c.look.ensures c.in-Brace.is) c.in_ok-c-in-Brace.ensures
 
 pub command-returns-in_default : goal.command-returns-in_default
 command-returns-in_default t c = no_command (level c.args.left) (tokens_from c.args.text.now c.args.from.at) c.look.result c.look.ensures c.in_default.not-Part c.in_default.not-Paren c.in_default.not-If c.in_default.not-While c.in_default.not-For c.in_default.not-Case c.in_default.not-Brace

@@ -1,8 +1,4 @@
-use Rattle.std.proofs.Common.{◌≡◌, ℕ, ◌+◌, ◌-◌, max, Bool, true, false, length, get_or, take, drop, sym, refl, ap, ◌∙◌, subst, inl, inr, arith, rules}
-use mathlib.Core.Option.{none}
-use Rattle.std.proofs.lemmas.Result.{err_from_is_err_and}
-use Rattle.grammar.specs.Parser.{level}
-use Rattle.lexer.specs.Stored.{tokens_from, code_at}
+use Rattle.std.proofs.Common.{sym, ◌∙◌, arith}
 use Rattle.lexer.proofs.Lexing.{code_out}
 use Rattle.reader.proofs.expect.Goals as goal
 

@@ -1,4 +1,4 @@
-use Rattle.std.proofs.Common.{◌∙◌, arith, rules}
+use Rattle.std.proofs.Common.{◌∙◌, arith}
 use Rattle.reader.proofs.Stages.{positional_past, positional_at}
 use Rattle.reader.proofs.is_positional.Goals as goal
 

@@ -1,7 +1,4 @@
-use Rattle.std.proofs.Common.{◌≡◌, ℕ, ◌+◌, ◌-◌, max, Bool, true, false, ◌&&◌, eqb, length, get_or, take, drop, sym, refl, ap, ◌∙◌, subst, inl, inr, arith, rules}
-use mathlib.Core.Option.{none}
-use Rattle.std.proofs.lemmas.Result.{err_from_is_err_and}
-use Rattle.grammar.specs.Parser.{level}
+use Rattle.std.proofs.Common.{◌+◌, ◌&&◌, eqb, sym, ap, ◌∙◌, arith}
 use Rattle.lexer.specs.Stored.{tokens_from, code_at}
 use Rattle.reader.proofs.Commands.{function_is}
 use Rattle.reader.specs.Reading.{bare}

@@ -1,4 +1,4 @@
-use Rattle.std.proofs.Common.{sym, ap, ◌∙◌, arith, rules}
+use Rattle.std.proofs.Common.{arith}
 use Rattle.reader.proofs.Wholes.{too_long, not_read, not_whole, program}
 use Rattle.reader.proofs.read.Goals as goal
 

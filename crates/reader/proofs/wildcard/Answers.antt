@@ -1,4 +1,4 @@
-use Rattle.std.proofs.Common.{◌+◌, ◌-◌, length, take, drop, sym, ap, ◌∙◌, arith, rules}
+use Rattle.std.proofs.Common.{◌+◌, ◌-◌, take, drop, sym, ap, ◌∙◌, arith}
 use Rattle.syntax.specs.Stage.{has_wildcard}
 use Rattle.reader.proofs.Stages.{wildcard_past, wildcard_none, wildcard_star, wildcard_mark, wildcard_next}
 use Rattle.reader.proofs.wildcard.Goals as goal
