@@ -3,7 +3,7 @@ use Rattle.machine.proofs.Steps.{tree_on, frame_tight, tree_beyond, top_long, st
 use Rattle.machine.proofs.step.step_unwind.Goals as goal
 
 pub returns-in_default : goal.returns-in_default
-returns-in_default t = record { held = search rules; same = search rules; says = λ text. record { says = λ number r c k h. (unwind_ends t.args.unwind t.args.n t.requires.0 t.in_default.ensures h, refl) } }
+returns-in_default t = record { held = search rules; same = search rules; says = λ text. record { says = λ number r c k h. (unwind_ends t.args.unwind t.args.n t.requires.control_value t.in_default.ensures h, refl) } }
 
 pub returns : goal.returns
-returns t = record { held = search rules; same = search rules; says = λ text. record { says = λ number r c k h. unwind_on t.args.unwind t.args.n t.in-Some.f t.next_unwind-resumed.result t.requires.0 t.in-Some.ensures t.next_unwind-resumed.ensures t.settle.ensures.says h } }
+returns t = record { held = search rules; same = search rules; says = λ text. record { says = λ number r c k h. unwind_on t.args.unwind t.args.n t.in-Some.f t.next_unwind-resumed.result t.requires.control_value t.in-Some.ensures t.next_unwind-resumed.ensures t.settle.ensures.says h } }

@@ -6,7 +6,7 @@ use Rattle.machine.proofs.Pushes.{push_nil, push_fails}
 use Rattle.machine.proofs.Texts.{coded_next, coded_short}
 
 pub loop-b-init : goal.loop-b-init
-loop-b-init c = (c.requires.1, refl, push_nil)
+loop-b-init c = (c.requires.held_2, refl, push_nil)
 
 pub returns-then-not-extend : goal.returns-then-not-extend
 returns-then-not-extend c = let i = c.loop-b.invariant in record { held = search rules; same = search rules; says = push_fails _ (coded_next c.args.quoted c.args.bytes.now c.loop-b.b-index (omega arith) i.2 (rw i.1 at c.extend.ensures.says)) c.if-not-extend.true (coded_short c.args.quoted c.args.bytes.now (c.loop-b.b-index + 1)) }
