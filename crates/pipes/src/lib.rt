@@ -28,8 +28,8 @@ const CODE_WORDS: usize = 160;
 
 /// Whether too few words are lent for a text of so many bytes.
 fn too_few(words: usize, bytes: usize) -> bool
-    ensures words_bound { T result → words < 65536 + 16 * bytes }
-    ensures t { words < 65536 + 16 * bytes → T result }
+    ensures few { T result → words < 65536 + 16 * bytes }
+    ensures told { words < 65536 + 16 * bytes → T result }
 {
     words < FLOOR || (words - FLOOR) / WORDS_A_BYTE < bytes
 }
