@@ -1,4 +1,6 @@
 //! What the two programs share: places in a text, and how a run came out in words.
+#![tactic(auto)]
+
 ghost use Rattle.std.specs.Prelude.{◌≡◌, ℕ, ◌^◌, ◌<◌, take};
 ghost use Rattle.front.specs.Places.{after_byte, place_after};
 

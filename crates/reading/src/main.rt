@@ -1,4 +1,6 @@
 //! Reads texts that are lists of commands and texts that are none, and prints what each is.
+#![tactic(auto)]
+
 use front::faults::{Fault, read_text};
 use front::visible::Visible;
 use std::fs;
