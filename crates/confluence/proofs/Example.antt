@@ -10,7 +10,7 @@ use native.Mathlib.Omega.{arith}
 use lib.Chars.{codes}
 use lib.ListN.{length}
 use Rattle.syntax.specs.Base.{pick, opt}
-use Rattle.syntax.specs.Tree.{WordPart, literal, parameter, substitution, Word, no_parts, and_part, Words, no_words, and_word, no_assignments, no_redirects, Command, simple, for, Pipeline, single, piped, AndOr, first, CommandList, end, next}
+use Rattle.syntax.specs.Tree.{WordPart, literal, parameter, substitution, Word, no_parts, and_part, Words, no_words, and_word, no_assignments, no_redirects, Command, simple, for, Pipeline, single, piped, first, CommandList, end, next}
 use Rattle.syntax.specs.Stage.{stage}
 use Rattle.meaning.specs.System.{Process, System}
 use Rattle.meaning.specs.Step.{enabled, move, moves, initial}

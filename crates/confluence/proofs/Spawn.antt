@@ -12,7 +12,7 @@ use Rattle.syntax.specs.Tree.{Command, piped, Pipeline, single}
 use Rattle.meaning.specs.System.{at_command, find_process, Handle, pipe_read, pipe_write, Process, System}
 use Rattle.meaning.specs.Step.{new_pipe, pipeline_length, spawn, spawn_pipeline}
 use Rattle.meaning.proofs.Core.{no_some}
-use Rattle.confluence.proofs.Basics.{app_assoc, app_nil, eqb_no, eqb_self, length_snoc, length_two, nth_lt, nth_new, nth_old, nth_one, nth_two}
+use Rattle.confluence.proofs.Basics.{app_assoc, eqb_no, eqb_self, length_snoc, length_two, nth_lt, nth_new, nth_old, nth_one, nth_two}
 use Rattle.confluence.proofs.Restrictions.{OkCommand, OkMembers}
 use Rattle.confluence.proofs.Processes.{Unique}
 use Rattle.confluence.proofs.Path.{member_command}

@@ -15,7 +15,6 @@ use Rattle.meaning.specs.Step.{goes_to, move, read_or, settle, step, StepResult,
 use Rattle.meaning.proofs.Own.{found_pid, inside, other_there}
 use Rattle.meaning.proofs.Core.{no_some}
 use Rattle.confluence.proofs.Basics.{app_assoc, eqb_self, equal_or_not, nth_lt, or_right, put_other, put_same}
-use Rattle.confluence.proofs.Chain.{reading}
 use Rattle.confluence.proofs.Local.{Alike, Fixed, Local}
 use Rattle.confluence.proofs.Simulation.{Simulates}
 use Rattle.confluence.proofs.Discipline.{WordAt}

@@ -1,10 +1,10 @@
 -- The parser and the grammar say the same.
-use mathlib.Core.Path.{◌≡◌, refl, sym, ◌∙◌, ap, subst}
+use mathlib.Core.Path.{◌≡◌, sym, ◌∙◌, ap, subst}
 use mathlib.Core.Bool.{Bool, true, false, ◌&&◌}
-use mathlib.Core.List.{List, [], ◌∷◌, ◌++◌}
+use mathlib.Core.List.{List, [], ◌∷◌}
 use mathlib.Core.Option.{Option, some, none}
 use mathlib.Core.Logic.{◌↔◌}
-use Prim.Native.Nat.{ℕ, zero, suc, ◌≤◌, ◌<◌, max}
+use Prim.Native.Nat.{ℕ, suc, ◌<◌, max}
 use native.Mathlib.Omega.{arith}
 use lib.ListN.{length}
 use lib.Dec.{leb, T, leb→le, le→leb}
@@ -14,7 +14,7 @@ use Rattle.grammar.specs.Tokens.{Token, tokens, start}
 use Rattle.grammar.specs.Grammar.{ListText, Parses}
 use Rattle.grammar.specs.Parser.{Parsed, level, whole, parse}
 use Rattle.grammar.specs.Statements.{Unambiguous, ParserAgrees}
-use Rattle.grammar.proofs.Fit.{Fits, misfit, fit, Ld, level_sound, and_r}
+use Rattle.grammar.proofs.Fit.{Fits, fit, Ld, level_sound, and_r}
 use Rattle.grammar.proofs.Find.{parse_in, app_nil, some_is, one_text, level_in, l_end}
 
 is_some : {A : Type 0} → Option A → Bool

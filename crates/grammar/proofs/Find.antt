@@ -1,18 +1,18 @@
 -- What the grammar has, the parser finds.
 use mathlib.Core.Path.{◌≡◌, refl, sym, ◌∙◌, ap, subst}
-use mathlib.Core.Bool.{Bool, true, false, ◌&&◌, ◌||◌, not}
+use mathlib.Core.Bool.{Bool, true, false, ◌&&◌, not}
 use mathlib.Core.List.{List, [], ◌∷◌, ◌++◌}
 use mathlib.Core.Option.{Option, some, none}
-use Prim.Native.Nat.{ℕ, zero, suc, ◌+◌, ◌≤◌, ◌<◌, max}
+use Prim.Native.Nat.{ℕ, zero, suc, ◌+◌, ◌≤◌, ◌<◌}
 use native.Mathlib.Omega.{arith}
 use lib.ListN.{length}
-use lib.Dec.{eqb, ltb, leb, T, T_not, eqb→eq, leb→le}
-use Rattle.syntax.specs.Base.{pick, opt, on_some, Name, same, valid_name}
-use Rattle.syntax.specs.Tree.{WordPart, literal, parameter, substitution, Word, no_parts, and_part, Words, no_words, and_word, Assignments, no_assignments, assign, RedirectKind, input, output, append, here, Redirects, no_redirects, redirect, Command, simple, group, subshell, if, while, for, case, function, ElsePart, no_else, else, Arms, no_arms, arm, Pipeline, single, piped, AndOr, first, joined, CommandList, end, next}
+use lib.Dec.{leb, T, T_not, leb→le}
+use Rattle.syntax.specs.Base.{pick, opt, Name, same, valid_name}
+use Rattle.syntax.specs.Tree.{WordPart, Word, Words, and_word, Assignments, RedirectKind, Redirects, Command, simple, ElsePart, Arms, Pipeline, AndOr, first, joined, CommandList}
 use Rattle.syntax.specs.Depth.{part_depth, word_depth, words_depth, assignments_depth, redirects_depth, command_depth, else_depth, arms_depth, pipeline_depth, and_or_depth, list_depth}
 use Rattle.grammar.specs.Tokens.{Token, token}
-use Rattle.grammar.specs.Grammar.{Parses, sign, keyword, PartText, MoreText, WordText, WordsText, AssignmentsText, RedirectsText, CommandText, ElseText, ArmsText, PipelineText, NegatableText, AndOrText, ClosedListText, ListText, literal_x, quoted_x, parameter_x, quoted_parameter_x, substitution_x, quoted_substitution_x, more_none, more_part, word_x, no_words_x, and_word_x, no_assignments_x, assign_x, no_redirects_x, redirect_x, simple_x, assignments_x, group_x, subshell_x, if_x, while_x, for_x, case_x, function_x, fi_x, else_x, elif_x, no_arms_x, blank_arm_x, arm_x, single_x, piped_x, plain_x, negated_x, first_x, and_x, or_x, closed_end_x, closed_blank_x, closed_next_x, end_x, last_x, blank_x, next_x, Separator, semicolon, newline, Terminator, separated, in_background, RedirectSign, sign_input, sign_output, sign_append, sign_here, Split, split_equals, is_assignment, put_before, reserved, listed, bare, begins_assignment, first_word_ok, kw_if, kw_then, kw_elif, kw_else, kw_fi, kw_while, kw_do, kw_done, kw_for, kw_in, kw_case, kw_esac, kw_open, kw_close, kw_not, kw_when}
-use Rattle.grammar.specs.Parser.{Parsed, Deeper, Opener, open_if, open_while, open_for, open_case, open_brace, Lookahead, la_end, la_odd, la_part, la_not, la_keyword, la_paren, la_pipe, la_and, la_or, la_newline, la_close_paren, la_double_semicolon, la_opener, la_redirect, la_terminator, lookahead, is_paren, is_not, is_newline, ends_list, Entry, entry, lookahead_of, look_up, keyword_table, sign_table, no_word, next_joined, expect, same_flag, same_token, parse_substitution, parse_part_go, parse_part, parse_more_go, parse_more, parse_words, parse_assignments, parse_redirects, parse_arms, parse_pipeline, parse_word, parse_words_go, after_first, split_ok, assignment_go, assignment_at, parse_assignments_go, redirect_at, parse_redirects_go, first_word_fits, assignments_alone, parse_simple, name_go, parse_name, function_at, parse_function, separator_at, parse_arms_go, parse_opener, parse_command_by, parse_command, parse_pipeline_go, parse_negatable, joiner_at, parse_and_or_go, parse_and_or, terminator_at, parse_list_go, parse_else, parse_list, level, whole, parse}
+use Rattle.grammar.specs.Grammar.{Parses, sign, keyword, PartText, MoreText, WordText, WordsText, AssignmentsText, RedirectsText, CommandText, ElseText, ArmsText, PipelineText, NegatableText, AndOrText, ClosedListText, ListText, literal_x, quoted_x, parameter_x, quoted_parameter_x, substitution_x, quoted_substitution_x, more_none, more_part, word_x, no_words_x, and_word_x, no_assignments_x, assign_x, no_redirects_x, redirect_x, simple_x, assignments_x, group_x, subshell_x, if_x, while_x, for_x, case_x, function_x, fi_x, else_x, elif_x, no_arms_x, blank_arm_x, arm_x, single_x, piped_x, plain_x, negated_x, first_x, and_x, or_x, closed_end_x, closed_blank_x, closed_next_x, end_x, last_x, blank_x, next_x, Separator, semicolon, newline, Terminator, separated, in_background, RedirectSign, sign_input, sign_output, sign_append, sign_here, Split, split_equals, put_before, reserved, listed, bare, first_word_ok, kw_then, kw_fi, kw_do, kw_done, kw_in, kw_esac, kw_close}
+use Rattle.grammar.specs.Parser.{Deeper, Opener, open_if, open_while, open_for, open_case, open_brace, Lookahead, la_odd, la_part, la_not, la_keyword, la_paren, la_opener, lookahead, is_paren, is_not, is_newline, ends_list, Entry, lookahead_of, look_up, keyword_table, no_word, next_joined, expect, parse_part, parse_more_go, parse_words, parse_assignments, parse_redirects, parse_arms, parse_word, parse_words_go, split_ok, assignment_at, parse_assignments_go, redirect_at, parse_redirects_go, parse_simple, function_at, separator_at, parse_arms_go, parse_command, parse_pipeline_go, parse_negatable, joiner_at, parse_and_or_go, parse_and_or, terminator_at, parse_list_go, parse_else, parse_list, level, whole, parse}
 use Rattle.grammar.proofs.Fit.{app_assoc, and_l, and_r, is_T, T-is, same_is, by_bool, first_is}
 
 -- what may stand behind a list that need not end, a list of ended commands

@@ -1,3 +1,5 @@
+#![tactic(auto)]
+
 ghost use Rattle.grammar.specs.Statements.{Unambiguous, ParserAgrees};
 
 // A text is at most one list of commands.

@@ -1,7 +1,7 @@
 -- One token after the other: where nothing has begun, the tokens of a text are one token and those of what is behind it.
-use Rattle.std.proofs.Common.{◌≡◌, ℕ, zero, suc, ◌+◌, ◌≤◌, Bool, true, false, not, ◌&&◌, ◌||◌, T, eqb, leb, List, [], ◌∷◌, ◌++◌, length, sym, refl, ap, ◌∙◌, subst, arith}
+use Rattle.std.proofs.Common.{◌≡◌, ℕ, ◌+◌, ◌≤◌, Bool, true, false, not, ◌&&◌, ◌||◌, T, eqb, List, [], ◌∷◌, ◌++◌, length, refl, ap, ◌∙◌, subst, arith}
 use Rattle.syntax.specs.Base.{pick, letter, digit}
-use Rattle.grammar.specs.Tokens.{start, Token, token, Pending, nothing, in_word, in_quote, in_text, after_dollar, in_name, in_sign, in_comment, Lexer, lexer, scan, Scan, space, doubles, ends_word, scan_fresh, flush, is_sign, flush_and_scan, with_pending, scan_byte, finish, tokens, scan_dollar}
+use Rattle.grammar.specs.Tokens.{start, Token, token, Pending, nothing, in_word, in_quote, in_text, after_dollar, in_name, in_sign, in_comment, Lexer, lexer, scan, Scan, space, doubles, ends_word, scan_fresh, flush, is_sign, flush_and_scan, with_pending, scan_byte, tokens}
 use Rattle.grammar.specs.Grammar.{sign}
 use Rattle.grammar.proofs.Find.{length_app}
 use Rattle.grammar.proofs.Fit.{app_assoc, by_bool}

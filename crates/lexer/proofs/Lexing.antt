@@ -1,13 +1,12 @@
 -- The tokens that are made, and what is left of the text.
-use Rattle.std.proofs.Common.{◌≡◌, ℕ, zero, suc, ◌+◌, ◌-◌, ◌*◌, ◌<◌, ◌≤◌, Bool, true, false, not, ◌&&◌, ◌||◌, T, eqb, ◌≢◌, ◌⊎◌, List, [], ◌∷◌, ◌++◌, length, get_or, take, drop, set, sym, refl, ap, ◌∙◌, subst, inl, inr, arith}
+use Rattle.std.proofs.Common.{◌≡◌, ℕ, zero, suc, ◌+◌, ◌*◌, ◌<◌, ◌≤◌, Bool, true, false, not, T, ◌≢◌, ◌⊎◌, List, [], ◌∷◌, ◌++◌, length, get_or, drop, set, sym, refl, ap, ◌∙◌, subst, inl, inr, arith}
 use Rattle.std.proofs.lemmas.List.{drop_all, drop_more, append-nil, append_assoc, length-append, length_push, get_or_push, get_or_append_left, get_or-set_same, get_or-set_other, length-set}
 use Rattle.lexer.specs.declared.Bracket.{Bracket}
 use Rattle.lexer.specs.declared.Bracket.TheVariants.{Neither, Opens, Closes}
-use Rattle.syntax.specs.Base.{pick}
-use Rattle.grammar.specs.Tokens.{Token, token, tokens, start, top_of, rest_of}
+use Rattle.grammar.specs.Tokens.{Token, token, tokens, start}
 use Rattle.grammar.specs.Grammar.{sign}
 use Rattle.lexer.specs.Stored.{token_code, Spelled, TokenAt, TokensAt, resting, moved, Stepped, silent, cut, Cuts, opens_substitution, opens_in_quotes, tokens_of, tokens_from, code_at, Has}
-use Rattle.lexer.proofs.Next.{eqb_no, sign_0}
+use Rattle.lexer.proofs.Next.{sign_0}
 
 -- open brackets: the third word of a bracket's token is where the one around it stands
 pub data Brackets (m : List ℕ) : ℕ → ℕ → List Bool → Type 0 where

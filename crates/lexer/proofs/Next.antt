@@ -1,15 +1,15 @@
 -- One step of the lexer, by the first byte.
-use Rattle.std.proofs.Common.{◌≡◌, ℕ, zero, suc, ◌+◌, ◌-◌, ◌<◌, ◌≤◌, Bool, true, false, not, ◌&&◌, ◌||◌, T, eqb, leb, ◌≢◌, ◌⊎◌, List, [], ◌∷◌, ◌++◌, length, get_or, take, drop, sym, refl, ap, ◌∙◌, subst, inl, inr, arith, eqb→eq}
+use Rattle.std.proofs.Common.{◌≡◌, ℕ, suc, ◌+◌, ◌-◌, ◌<◌, ◌≤◌, Bool, true, false, not, ◌&&◌, ◌||◌, T, eqb, ◌≢◌, List, [], ◌∷◌, length, get_or, take, drop, sym, refl, ap, ◌∙◌, subst, inl, inr, arith, eqb→eq}
 use lib.Dec.{eqb_refl}
 use Rattle.std.proofs.lemmas.List.{drop_more, drop_all, drop-drop}
-use Rattle.lexer.specs.declared.Run.TheVariants.{Bare, Text, Letters, Comment, Quote, Prefix}
+use Rattle.lexer.specs.declared.Run.TheVariants.{Bare, Text, Letters, Comment, Quote}
 use Rattle.lexer.specs.declared.Bracket.TheVariants.{Neither, Opens, Closes}
 use Rattle.syntax.specs.Base.{pick, letter, digit}
-use Rattle.grammar.specs.Tokens.{Token, token, doubles, ends_word, tokens, top_of, rest_of}
+use Rattle.grammar.specs.Tokens.{token, doubles, ends_word, tokens}
 use Rattle.grammar.specs.Grammar.{sign}
-use Rattle.lexer.specs.Stored.{run_length, ends_run, keyword_index, bare_code, sign_code, token_code_of, token_code, Spelled, resting, moved, Stepped, silent, cut, Cuts, opens_substitution, opens_in_quotes}
+use Rattle.lexer.specs.Stored.{run_length, ends_run, keyword_index, bare_code, sign_code, token_code_of, resting, silent, cut, Cuts, opens_substitution, opens_in_quotes}
 use Rattle.grammar.proofs.Fit.{by_bool}
-use Rattle.lexer.proofs.Lex.{run_of, after, signed, quoted, sign_scan, at_note, at_quote, at_word, at_text, at_run, at_name, at_arg, at_dollar}
+use Rattle.lexer.proofs.Lex.{run_of, after, signed, sign_scan, at_note, at_quote, at_word, at_text, at_run, at_name, at_arg, at_dollar}
 use Rattle.lexer.proofs.Runs.{run_is, after_is}
 
 pub eqb_no : (m n : ℕ) → m ≢ n → eqb m n ≡ false

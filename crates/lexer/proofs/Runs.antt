@@ -1,14 +1,14 @@
 -- Runs of bytes, and what bare words are.
-use Rattle.std.proofs.Common.{◌≡◌, ℕ, zero, suc, ◌+◌, ◌-◌, ◌<◌, ◌≤◌, Bool, true, false, not, ◌&&◌, ◌||◌, T, eqb, leb, ◌⊎◌, List, [], ◌∷◌, ◌++◌, length, get_or, take, drop, Decides, sym, refl, ap, ◌∙◌, subst, inl, inr, arith, le→leb, leb→le, rules}
-use mathlib.Core.Option.{Option, some, none}
+use Rattle.std.proofs.Common.{◌≡◌, ℕ, suc, ◌+◌, ◌<◌, ◌≤◌, Bool, true, false, not, ◌&&◌, ◌||◌, T, eqb, leb, ◌⊎◌, List, [], ◌∷◌, ◌++◌, length, get_or, take, drop, Decides, sym, refl, ap, ◌∙◌, subst, inl, inr, arith, le→leb, leb→le, rules}
+use mathlib.Core.Option.{some, none}
 use lib.Dec.{nleb→lt, eqb-zero-suc, eqb-suc-suc}
 use Rattle.std.proofs.lemmas.List.{drop_more, drop_all, append-nil, append_assoc, length-take-le}
 use Rattle.std.proofs.lemmas.Slice.Eq.{compares_Decides}
-use Rattle.lexer.specs.declared.Run.TheVariants.{Bare, Text, Letters, Comment, Quote, Prefix}
+use Rattle.lexer.specs.declared.Run.TheVariants.{Letters, Prefix}
 use Rattle.syntax.specs.Base.{pick, same, letter, digit, name_bytes, valid_name}
-use Rattle.grammar.specs.Grammar.{split_equals, Split, reserved}
-use Rattle.lexer.specs.Stored.{run_length, ends_run, index_of, keyword_index, bare_code, assignment_code, word_code}
-use Rattle.grammar.proofs.Fit.{app_assoc, by_bool}
+use Rattle.grammar.specs.Grammar.{split_equals, reserved}
+use Rattle.lexer.specs.Stored.{run_length, ends_run, index_of, keyword_index, bare_code, word_code}
+use Rattle.grammar.proofs.Fit.{by_bool}
 use Rattle.lexer.proofs.Lex.{run_of, after}
 
 two_ways : {P : Type 0} (r s : Bool) → Decides r P → Decides s P → r ≡ s

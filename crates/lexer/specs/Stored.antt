@@ -1,9 +1,9 @@
 -- Tokens as words: what a token is, as one number, and where its bytes stand in the text.
-use Rattle.std.specs.Prelude.{◌≡◌, ℕ, zero, suc, ◌+◌, ◌*◌, ◌<◌, ◌≤◌, Bool, true, false, not, ◌&&◌, ◌||◌, ◌⊎◌, List, [], ◌∷◌, ◌++◌, length, take, drop, codes, ◌==◌, nat_le, slice_index, slice_index_or}
+use Rattle.std.specs.Prelude.{◌≡◌, ℕ, zero, suc, ◌+◌, ◌*◌, ◌<◌, ◌≤◌, Bool, true, false, not, ◌||◌, ◌⊎◌, List, [], ◌∷◌, length, take, drop, codes, ◌==◌, nat_le, slice_index, slice_index_or}
 use Rattle.std.proofs.Math.Option.{Option, some, none}
-use Rattle.syntax.specs.Base.{pick, opt, Name, same, letter, digit, valid_name}
-use Rattle.grammar.specs.Tokens.{Token, token, Pending, nothing, Lexer, lexer, ends_word, top_of, rest_of, tokens, start}
-use Rattle.grammar.specs.Grammar.{reserved, listed, split_equals, Split}
+use Rattle.syntax.specs.Base.{pick, Name, same, letter, digit, valid_name}
+use Rattle.grammar.specs.Tokens.{Token, token, nothing, Lexer, lexer, ends_word, top_of, rest_of, tokens, start}
+use Rattle.grammar.specs.Grammar.{reserved, split_equals, Split}
 use Rattle.lexer.specs.declared.Run.{Run}
 use Rattle.lexer.specs.declared.Run.TheVariants.{Bare, Text, Letters, Comment, Quote, Prefix}
 use Rattle.lexer.specs.declared.Bracket.{Bracket}

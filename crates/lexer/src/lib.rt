@@ -1,4 +1,6 @@
 //! From bytes to tokens: the tokens of a text are kept as words, three each.
+#![tactic(auto)]
+
 ghost use Rattle.std.specs.Prelude.{◌≡◌, ℕ, ◌+◌, ◌-◌, ◌*◌, ◌^◌, ◌<◌, ◌≤◌, true, false, ◌||◌, List, [], ◌∷◌, ◌++◌, length, drop, ◌==◌, ◌≢◌, slice_index};
 ghost use Rattle.grammar.specs.Grammar.{reserved};
 ghost use Rattle.grammar.specs.Tokens.{doubles, ends_word};

@@ -1,17 +1,17 @@
 -- A process's move leaves every other process as it was.
-use mathlib.Core.Path.{◌≡◌, refl, sym, ◌∙◌, ap, subst}
-use mathlib.Core.Bool.{Bool, true, false, ◌&&◌, ◌||◌, not}
+use mathlib.Core.Path.{◌≡◌, refl, sym, ◌∙◌, ap}
+use mathlib.Core.Bool.{Bool, true, false}
 use mathlib.Core.List.{List, [], ◌∷◌, ◌++◌}
 use mathlib.Core.Option.{Option, some, none}
 use Prim.Native.Nat.{ℕ, zero, suc}
 use native.Mathlib.Omega.{arith}
 use lib.ListN.{length}
-use lib.Dec.{eqb, ltb, T, eqb→eq, eqb_refl}
+use lib.Dec.{eqb, ltb}
 use Rattle.syntax.specs.Base.{pick, opt, on_some, nth, put, Name}
-use Rattle.syntax.specs.Tree.{WordPart, literal, parameter, substitution, Word, no_parts, and_part, Words, no_words, and_word, Assignments, no_assignments, assign, RedirectKind, input, output, append, here, Redirects, no_redirects, redirect, Command, simple, group, subshell, if, while, for, case, function, ElsePart, no_else, else, Arms, no_arms, arm, Pipeline, single, piped, AndOr, first, joined, CommandList, end, next}
+use Rattle.syntax.specs.Tree.{literal, parameter, substitution, Word, no_parts, and_part, Words, no_words, and_word, Assignments, no_assignments, assign, RedirectKind, input, output, append, here, Redirects, no_redirects, redirect, Command, simple, group, subshell, if, while, for, case, function, ElsePart, no_else, else, Arms, no_arms, arm, Pipeline, single, piped, AndOr, first, joined, CommandList, end, next}
 use Rattle.meaning.specs.System.{QuotedByte, Handle, file_read, file_append, pipe_read, pipe_write, host_input, host_paper, here_text, Builtin, b_done, b_print, b_cat, b_head, b_wc, b_grep, b_seq, b_yes, b_read, Expansion, AfterRedirects, then_invoke, then_command, Purpose, to_assign, to_invoke, to_redirect, to_loop, to_select, to_match, Unwind, break, continue, return, exit, Control, at_list, at_and_or, at_pipeline, at_command, at_words, at_redirects, at_builtin, at_status, at_unwind, at_wait, at_capture, Frame, f_list, f_and_or, f_not, f_if, f_condition, f_body, f_for, f_handles, f_arguments, Process, System, with_files, remove_file, ReadByte, got, at_end, must_wait, read_byte, read_input, read_text, read_handle, read_pipe, WriteByte, wrote, pipe_full, no_reader, write_byte, write_handle, write_pipe, held, writes_pipe, reads_pipe, find_file, with_handles, find_process, replace, without, exit_status}
 use Rattle.meaning.specs.Words.{first_bytes, close_word}
-use Rattle.meaning.specs.Step.{with_status, with_variables, StepResult, continues, exits, goes_to, spawn, new_pipe, spawn_pipeline, start_cat, start_seq, remove_files, run_builtin, invoke, print_byte, read_or, cat_next, grep_line, grep_last, step_builtin, apply_redirect, step_assignments, step_arms, step_for, expanded, next_word, step_expansion, step_redirects, redirected, step_command, step_pipeline, step_and_or, step_list, step_else, step_status, step_unwind, step_wait, step_capture, step_control, step, settle, move}
+use Rattle.meaning.specs.Step.{with_status, with_variables, StepResult, continues, exits, spawn, new_pipe, spawn_pipeline, start_cat, start_seq, remove_files, run_builtin, invoke, print_byte, read_or, cat_next, grep_last, step_builtin, apply_redirect, step_assignments, step_arms, step_for, expanded, next_word, step_expansion, step_redirects, redirected, step_command, step_pipeline, step_and_or, step_list, step_else, step_status, step_unwind, step_wait, step_control, step, settle}
 use Rattle.meaning.specs.Statements.{Isolated}
 
 abbrev pub Kept : List Process → List Process → Type 0

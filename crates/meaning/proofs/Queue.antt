@@ -3,16 +3,16 @@ use mathlib.Core.Path.{◌≡◌, refl, sym, ◌∙◌, ap, subst}
 use mathlib.Core.Logic.{◌⊎◌, inl, inr}
 use mathlib.Core.Bool.{Bool, true, false}
 use mathlib.Core.List.{List, [], ◌∷◌, ◌++◌}
-use mathlib.Core.Option.{Option, some, none}
-use Prim.Native.Nat.{ℕ, zero, suc, ◌+◌, ◌*◌, ◌≤◌, ◌<◌}
+use mathlib.Core.Option.{some}
+use Prim.Native.Nat.{ℕ, suc, ◌+◌, ◌*◌, ◌≤◌, ◌<◌}
 use native.Mathlib.Omega.{arith}
 use lib.ListN.{length}
 use lib.Dec.{eqb}
-use Rattle.syntax.specs.Base.{pick, opt, on_some}
+use Rattle.syntax.specs.Base.{pick, on_some}
 use Rattle.meaning.specs.System.{Process, System, find_process}
 use Rattle.meaning.specs.Step.{move, moves, enabled}
 use Rattle.meaning.specs.Statements.{Fair, Able, enabled_count, Among, at_head, in_tail}
-use Rattle.meaning.specs.Queue.{place, Once, Ready, NoLater, Queued, rests, stays, yields, QueueFair}
+use Rattle.meaning.specs.Queue.{place, Once, Ready, Queued, rests, stays, yields, QueueFair}
 use Rattle.meaning.proofs.Own.{inside}
 use Rattle.meaning.proofs.Core.{no_some}
 

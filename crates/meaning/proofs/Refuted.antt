@@ -1,17 +1,16 @@
 -- Without the rule that no $( ) stands behind a redirection that reads, a calm text of stage 2 has two papers:
 -- in  cat << 'a(end of line)bc' > $(cat | head 1); cat a  the inner cat reads the text that the outer one reads later, and
 -- how much it has taken when head leaves depends on the order.
-use mathlib.Core.Path.{◌≡◌, refl, sym, ◌∙◌, ap, subst}
-use mathlib.Core.Bool.{Bool, true, false}
-use mathlib.Core.List.{List, [], ◌∷◌, ◌++◌}
-use mathlib.Core.Option.{Option, some, none}
-use Prim.Native.Nat.{ℕ, zero, suc, ◌≤◌}
+use mathlib.Core.Path.{◌≡◌, refl, sym, ◌∙◌, subst}
+use mathlib.Core.Bool.{true, false}
+use mathlib.Core.List.{List, [], ◌∷◌}
+use mathlib.Core.Option.{some}
+use Prim.Native.Nat.{ℕ, zero, suc}
 use lib.Chars.{codes}
-use native.Mathlib.Omega.{arith}
 use Rattle.syntax.specs.Base.{opt}
-use Rattle.syntax.specs.Tree.{WordPart, literal, parameter, substitution, Word, no_parts, and_part, Words, no_words, and_word, Assignments, no_assignments, assign, RedirectKind, input, output, append, here, Redirects, no_redirects, redirect, Command, simple, Pipeline, single, piped, AndOr, first, CommandList, end, next}
+use Rattle.syntax.specs.Tree.{literal, substitution, Word, no_parts, and_part, Words, no_words, and_word, no_assignments, output, here, Redirects, no_redirects, redirect, Command, simple, single, piped, first, CommandList, end, next}
 use Rattle.syntax.specs.Stage.{stage}
-use Rattle.meaning.specs.System.{System, exit_status}
+use Rattle.meaning.specs.System.{System}
 use Rattle.meaning.specs.Step.{moves, initial}
 use Rattle.meaning.specs.Calm.{calm, calm_list}
 use Rattle.meaning.specs.Statements.{WithoutTheRule}

@@ -1,9 +1,9 @@
 -- What a state needs, in words, generously: the bytes of words, names and values, files with their names, texts, pipes,
 -- and what waits. A promise that memory runs out only when so much is needed rests on this.
-use Rattle.std.specs.Prelude.{Bool, true, false, ◌&&◌, ◌||◌, List, [], ◌∷◌, ◌++◌, ℕ, zero, suc, ◌+◌, ◌*◌, length, eqb}
-use Rattle.std.proofs.Math.Option.{Option, some, none}
-use Rattle.syntax.specs.Base.{pick, opt, Name}
-use Rattle.meaning.specs.System.{QuotedByte, Handle, file_read, file_append, pipe_read, pipe_write, host_input, host_paper, here_text, File, Variable, Builtin, b_done, b_print, b_cat, b_head, b_wc, b_grep, b_seq, b_yes, b_read, Expansion, AfterRedirects, then_invoke, then_command, Purpose, to_assign, to_invoke, to_redirect, to_loop, to_select, to_match, Control, at_list, at_and_or, at_pipeline, at_command, at_words, at_redirects, at_builtin, at_status, at_unwind, at_wait, at_capture, Frame, f_list, f_and_or, f_not, f_if, f_condition, f_body, f_for, f_handles, f_arguments, Process, Exited, System, writes_pipe, reads_pipe, held}
+use Rattle.std.specs.Prelude.{Bool, false, ◌||◌, List, [], ◌∷◌, ℕ, suc, ◌+◌, ◌*◌, length, eqb}
+use Rattle.std.proofs.Math.Option.{some, none}
+use Rattle.syntax.specs.Base.{pick, opt}
+use Rattle.meaning.specs.System.{Handle, file_read, file_append, pipe_read, pipe_write, host_input, host_paper, here_text, File, Variable, Builtin, b_done, b_print, b_cat, b_head, b_wc, b_grep, b_seq, b_yes, b_read, Expansion, AfterRedirects, then_invoke, then_command, Purpose, to_assign, to_invoke, to_redirect, to_loop, to_select, to_match, Control, at_list, at_and_or, at_pipeline, at_command, at_words, at_redirects, at_builtin, at_status, at_unwind, at_wait, at_capture, Frame, f_list, f_and_or, f_not, f_if, f_condition, f_body, f_for, f_handles, f_arguments, Process, Exited, System, writes_pipe, reads_pipe, held}
 
 -- a list of lists: 4 words for each, and their elements
 abbrev pub words_size : {A : Type 0} → List (List A) → ℕ

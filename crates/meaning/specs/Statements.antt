@@ -1,6 +1,6 @@
 -- What is proved of the meaning.
-use Rattle.std.specs.Prelude.{◌≡◌, Bool, true, false, List, [], ◌∷◌, ◌++◌, ℕ, ◌+◌, ◌*◌, ◌<◌, ◌≤◌, length}
-use Rattle.std.proofs.Math.Option.{Option, some, none}
+use Rattle.std.specs.Prelude.{◌≡◌, true, false, List, [], ◌∷◌, ◌++◌, ℕ, ◌+◌, ◌*◌, ◌<◌, ◌≤◌, length}
+use Rattle.std.proofs.Math.Option.{some}
 use Rattle.syntax.specs.Base.{pick}
 use Rattle.syntax.specs.Tree.{CommandList}
 use Rattle.syntax.specs.Stage.{stage}

@@ -1,9 +1,9 @@
 -- What processes do, one move at a time, in any order.
-use Rattle.std.specs.Prelude.{Bool, true, false, ◌&&◌, ◌||◌, not, List, [], ◌∷◌, ◌++◌, ℕ, zero, suc, ◌%◌, codes, length, eqb, leb}
+use Rattle.std.specs.Prelude.{Bool, true, false, ◌||◌, not, List, [], ◌∷◌, ◌++◌, ℕ, zero, suc, ◌%◌, codes, length, eqb, leb}
 use Rattle.std.proofs.Math.Option.{Option, some, none}
 use Rattle.syntax.specs.Base.{pick, opt, on_some, Name, same, valid_name}
-use Rattle.syntax.specs.Tree.{WordPart, literal, parameter, substitution, Word, no_parts, and_part, Words, no_words, and_word, Assignments, no_assignments, assign, RedirectKind, input, output, append, here, Redirects, no_redirects, redirect, Command, simple, group, subshell, if, while, for, case, function, ElsePart, no_else, else, Arms, no_arms, arm, Pipeline, single, piped, AndOr, first, joined, CommandList, end, next}
-use Rattle.meaning.specs.System.{QuotedByte, Handle, file_read, file_append, pipe_read, pipe_write, host_input, host_paper, here_text, File, Variable, Function, Builtin, b_done, b_print, b_cat, b_head, b_wc, b_grep, b_seq, b_yes, b_read, Expansion, AfterRedirects, then_invoke, then_command, Purpose, to_assign, to_invoke, to_redirect, to_loop, to_select, to_match, Unwind, break, continue, return, exit, Control, at_list, at_and_or, at_pipeline, at_command, at_words, at_redirects, at_builtin, at_status, at_unwind, at_wait, at_capture, Frame, f_list, f_and_or, f_not, f_if, f_condition, f_body, f_for, f_handles, f_arguments, Process, Exited, System, with_processes, with_handles, with_files, find_file, set_file, remove_file, ReadByte, got, at_end, must_wait, read_byte, WriteByte, wrote, pipe_full, no_reader, write_byte, find_process, replace, without, exit_status, set_variable, function_body}
+use Rattle.syntax.specs.Tree.{literal, parameter, substitution, Word, no_parts, and_part, Words, no_words, and_word, Assignments, no_assignments, assign, RedirectKind, input, output, append, here, Redirects, no_redirects, redirect, Command, simple, group, subshell, if, while, for, case, function, ElsePart, no_else, else, Arms, no_arms, arm, Pipeline, single, piped, AndOr, first, joined, CommandList, end, next}
+use Rattle.meaning.specs.System.{QuotedByte, Handle, file_read, file_append, pipe_read, pipe_write, host_input, host_paper, here_text, File, Variable, Function, Builtin, b_done, b_print, b_cat, b_head, b_wc, b_grep, b_seq, b_yes, b_read, Expansion, AfterRedirects, then_invoke, then_command, Purpose, to_assign, to_invoke, to_redirect, to_loop, to_select, to_match, Unwind, break, continue, return, exit, Control, at_list, at_and_or, at_pipeline, at_command, at_words, at_redirects, at_builtin, at_status, at_unwind, at_wait, at_capture, Frame, f_list, f_and_or, f_not, f_if, f_condition, f_body, f_for, f_handles, f_arguments, Process, System, with_processes, with_handles, with_files, find_file, set_file, remove_file, ReadByte, got, at_end, must_wait, read_byte, WriteByte, wrote, pipe_full, no_reader, write_byte, find_process, replace, without, exit_status, set_variable, function_body}
 use Rattle.meaning.specs.Words.{decimal, number, quote_bytes, so_far, close_word, matches, all_pathnames, parameter_value, expand_words, expand_word, insert_value, with_parts, first_bytes, first_quoted, join_words, as_line, contains, first_or, tail_of, status_of, test_status}
 
 -- the builtin commands

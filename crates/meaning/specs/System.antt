@@ -1,5 +1,5 @@
 -- A system: processes, what they have open, files, pipes, and reading and writing a byte.
-use Rattle.std.specs.Prelude.{Bool, true, false, ◌&&◌, ◌||◌, not, List, [], ◌∷◌, ◌++◌, ℕ, suc, length, eqb, ltb}
+use Rattle.std.specs.Prelude.{Bool, false, ◌||◌, List, [], ◌∷◌, ◌++◌, ℕ, suc, length, eqb, ltb}
 use Rattle.std.proofs.Math.Option.{Option, some, none}
 use Rattle.syntax.specs.Base.{pick, opt, on_some, nth, put, Name, same}
 use Rattle.syntax.specs.Tree.{RedirectKind, Word, Words, Assignments, Redirects, Command, ElsePart, Arms, Pipeline, AndOr, CommandList}

@@ -1,11 +1,11 @@
 -- All segments are moved, one before another.
-use Rattle.std.proofs.Common.{◌≡◌, ℕ, ◌+◌, ◌-◌, ◌*◌, ◌/◌, ◌<◌, ◌≤◌, ◌≢◌, ◌⊎◌, List, [], ◌∷◌, ◌++◌, length, get_or, take, set, sum_by, sym, refl, ap, ◌∙◌, inl, inr, ⊎_elim, arith}
-use Rattle.std.proofs.lemmas.List.{set_past, take_all, length-append, length-take-le, get_or_past}
-use Rattle.std.proofs.lemmas.List.Sums.{sum_by-cons, sum_by-append, sum_by_more, sum_by-take-le, sum_by-set, get_or-le-sum_by}
+use Rattle.std.proofs.Common.{◌≡◌, ℕ, ◌+◌, ◌-◌, ◌*◌, ◌/◌, ◌<◌, ◌≤◌, ◌≢◌, ◌⊎◌, List, [], ◌∷◌, length, get_or, take, set, sym, refl, ap, ◌∙◌, inl, inr, ⊎_elim, arith}
+use Rattle.std.proofs.lemmas.List.{get_or_past}
+use Rattle.std.proofs.lemmas.List.Sums.{sum_by-cons, sum_by_more, sum_by-take-le, sum_by-set, get_or-le-sum_by}
 use Rattle.std.proofs.lemmas.Bool.{cases_eq, cases_lt}
-use Rattle.segments.specs.Layout.{field, start, size, room, mark, seg, segs, Good, Within, Free, Moved, need, spread}
-use Rattle.segments.proofs.Table.{segs_at, length_segs}
-use Rattle.segments.proofs.SegmentLaws.{len_is, length_seg}
+use Rattle.segments.specs.Layout.{size, room, segs, Good, Within, Free, Moved, need, spread}
+use Rattle.segments.proofs.Table.{length_segs}
+use Rattle.segments.proofs.SegmentLaws.{len_is}
 
 -- how many words there are
 pub need_set : (xs : List (List ℕ)) (i : ℕ) (y : List ℕ) → i < length xs → need (set xs i y) + length (get_or xs i []) ≡ need xs + length y

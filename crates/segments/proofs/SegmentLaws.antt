@@ -1,11 +1,11 @@
 -- Reads and writes of one segment.
-use Rattle.std.proofs.Common.{◌≡◌, ℕ, zero, suc, ◌+◌, ◌-◌, ◌*◌, ◌/◌, ◌%◌, ◌<◌, ◌≤◌, ◌≢◌, ◌⊎◌, List, [], ◌∷◌, ◌++◌, map, length, get_or, take, drop, set, sym, refl, ap, ◌∙◌, ap₂, inl, inr, ⊎_elim, arith}
+use Rattle.std.proofs.Common.{◌≡◌, ℕ, ◌+◌, ◌-◌, ◌*◌, ◌<◌, ◌≤◌, ◌≢◌, ◌⊎◌, List, [], ◌++◌, length, get_or, take, drop, set, sym, refl, ap, ◌∙◌, ap₂, inl, inr, ⊎_elim, arith}
 use lib.Seq.{take-set-lt}
 use Rattle.std.proofs.lemmas.List.{length-set, length-take, length-take-le, length-drop, get_or-take, get_or-drop, take-set-le, drop-set-add, take-take, set_past, get_or_past, set-get_or, take-append-drop, drop-drop, drop-take, append-nil}
-use Rattle.std.proofs.lemmas.Bool.{cases_eq, cases_lt}
+use Rattle.std.proofs.lemmas.Bool.{cases_eq}
 use Rattle.segments.specs.Words.{Written}
-use Rattle.segments.specs.Layout.{field, filed, start, size, room, mark, seg, segs, marks, Good, Within, Free, Changed, Moved}
-use Rattle.segments.proofs.WordLaws.{part_front, drop_same, take_same, part_set_out, part_written}
+use Rattle.segments.specs.Layout.{field, filed, start, size, room, seg, segs, Good, Free, Changed, Moved}
+use Rattle.segments.proofs.WordLaws.{part_front, take_same, part_set_out, part_written}
 use Rattle.segments.proofs.Table.{length_filed, field_same, field_part, field_other, drop_filed, field_front, seg_is, seg_same, segs_at, length_segs, segs_set, segs_same, segs_past}
 
 take_split : (a b : ℕ) (xs : List ℕ) → take (a + b) xs ≡ take a xs ++ take b (drop a xs)

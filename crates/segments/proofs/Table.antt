@@ -1,11 +1,9 @@
 -- The table: what an entry says after a write, and the segments that it tells of.
-use Rattle.std.proofs.Common.{◌≡◌, ℕ, zero, suc, ◌+◌, ◌-◌, ◌*◌, ◌/◌, ◌%◌, ◌<◌, ◌≤◌, Bool, true, false, eqb, ◌≢◌, ◌⊎◌, List, [], ◌∷◌, ◌++◌, map, length, get_or, take, drop, set, sym, refl, ap, ◌∙◌, ap₂, inl, inr, ⊎_elim, arith}
-use Rattle.std.specs.List.{range_with_len}
-use Rattle.std.proofs.lemmas.List.{get_or-set_same, get_or-set_other, length-set, length-take, length-drop, get_or-take, get_or-drop, ext_get_or, get_or_past}
+use Rattle.std.proofs.Common.{◌≡◌, ℕ, ◌+◌, ◌*◌, ◌<◌, ◌≤◌, false, eqb, ◌≢◌, ◌⊎◌, List, [], ◌∷◌, ◌++◌, length, get_or, take, drop, set, sym, ap, ◌∙◌, ⊎_elim, arith}
+use Rattle.std.proofs.lemmas.List.{get_or-set_same, get_or-set_other, length-set, ext_get_or, get_or_past}
 use Rattle.std.proofs.lemmas.List.FromFn.{get_or-map-range_with_len, length-map-range_with_len, map-range_with_len_more}
-use Rattle.std.proofs.lemmas.Bool.{cases_eq, cases_lt}
-use Rattle.segments.specs.Words.{at64, put64}
-use Rattle.segments.specs.Layout.{field, filed, start, size, room, mark, seg, segs, marks, Good}
+use Rattle.std.proofs.lemmas.Bool.{cases_eq}
+use Rattle.segments.specs.Layout.{field, filed, start, size, mark, seg, segs, marks}
 use Rattle.segments.proofs.WordLaws.{length_put64, at64_put_same, at64_put_other, at64_front, drop_put64}
 
 pub length_filed : (w : List ℕ) (i c v : ℕ) → length (filed w i c v) ≡ length w

@@ -1,4 +1,6 @@
 // Segments of words behind a table, and what is done to one of them or to all.
+#![tactic(auto)]
+
 ghost use Rattle.std.specs.Prelude.{◌≡◌, ℕ, ◌+◌, ◌-◌, ◌*◌, ◌/◌, ◌<◌, ◌≤◌, Bool, true, false, ◌≢◌, ◌⊎◌, List, [], ◌∷◌, ◌++◌, length, take, slice_index, slice_index_or, slice_set};
 ghost use Rattle.segments.specs.Layout.{field, filed, start, size, room, mark, seg, segs, marks, Good, Within, Free, Changed, Moved, Exchanged, Opened, Marked, Retired, need, spread};
 

@@ -1,9 +1,9 @@
 -- The stage of each form. A text's stage is the highest of its forms':
 -- 0 the core (simple commands, words, names, files, ; && || ! if while groups), 1 pipes, 2 $( ),
 -- 3 functions and their arguments, 4 for, case, and * and ? outside quotes, 5 ( ) and &.
-use Rattle.std.specs.Prelude.{Bool, true, false, ◌&&◌, ◌||◌, not, List, [], ◌∷◌, ℕ, max, eqb, leb}
+use Rattle.std.specs.Prelude.{Bool, false, ◌&&◌, ◌||◌, not, List, [], ◌∷◌, ℕ, max, eqb, leb}
 use Rattle.syntax.specs.Base.{pick, Name}
-use Rattle.syntax.specs.Tree.{WordPart, literal, parameter, substitution, Word, no_parts, and_part, Words, no_words, and_word, Assignments, no_assignments, assign, RedirectKind, Redirects, no_redirects, redirect, Command, simple, group, subshell, if, while, for, case, function, ElsePart, no_else, else, Arms, no_arms, arm, Pipeline, single, piped, AndOr, first, joined, CommandList, end, next}
+use Rattle.syntax.specs.Tree.{WordPart, literal, parameter, substitution, Word, no_parts, and_part, Words, no_words, and_word, Assignments, no_assignments, assign, Redirects, no_redirects, redirect, Command, simple, group, subshell, if, while, for, case, function, ElsePart, no_else, else, Arms, no_arms, arm, Pipeline, single, piped, AndOr, first, joined, CommandList, end, next}
 
 -- $1 to $9, $0 and $#
 abbrev pub positional : Name → Bool

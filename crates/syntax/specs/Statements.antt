@@ -1,5 +1,5 @@
 -- What holds of every tree.
-use Rattle.std.specs.Prelude.{ℕ, ◌≤◌}
+use Rattle.std.specs.Prelude.{◌≤◌}
 use Rattle.syntax.specs.Tree.{CommandList}
 use Rattle.syntax.specs.Stage.{stage}
 

@@ -1,5 +1,5 @@
 -- Commands as trees.
-use Rattle.std.specs.Prelude.{Bool, true, false, List, ℕ}
+use Rattle.std.specs.Prelude.{Bool, List, ℕ}
 use Rattle.syntax.specs.Base.{Name}
 
 -- < reads a file, > writes a file that is empty first, >> writes behind what is there, << reads the word itself

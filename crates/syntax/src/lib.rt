@@ -1,3 +1,5 @@
+#![tactic(auto)]
+
 ghost use Rattle.syntax.specs.Statements.{SixStages};
 
 // Every tree is of one of the stages 0 to 5.

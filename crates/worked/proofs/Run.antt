@@ -1,7 +1,6 @@
 -- Each example, computed.
-use mathlib.Core.Path.{◌≡◌, refl}
+use mathlib.Core.Path.{refl}
 use mathlib.Core.List.{List}
-use mathlib.Core.Option.{Option, some, none}
 use Prim.Native.Nat.{ℕ}
 use lib.Chars.{codes}
 use Rattle.syntax.specs.Base.{opt}

@@ -1,13 +1,12 @@
 -- Orders that always move the newest or the oldest process that is enabled, and where they lead.
-use mathlib.Core.Path.{◌≡◌, refl, sym, ◌∙◌, ap, subst}
-use mathlib.Core.Bool.{Bool, true, false}
-use mathlib.Core.List.{List, [], ◌∷◌, ◌++◌}
+use mathlib.Core.Path.{◌≡◌, refl, ap}
+use mathlib.Core.List.{List, [], ◌∷◌}
 use mathlib.Core.Option.{Option, some, none}
 use Prim.Native.Nat.{ℕ, zero, suc}
 use lib.ListN.{length}
 use lib.Dec.{leb, T, leb→le}
-use Rattle.syntax.specs.Base.{pick, opt, on_some, nth}
-use Rattle.syntax.specs.Tree.{CommandList, end}
+use Rattle.syntax.specs.Base.{pick, opt, nth}
+use Rattle.syntax.specs.Tree.{CommandList}
 use Rattle.grammar.specs.Tokens.{tokens, start}
 use Rattle.grammar.specs.Grammar.{Parses}
 use Rattle.grammar.specs.Parser.{parse}

@@ -1,6 +1,6 @@
 -- Small texts and what they give, from the bytes of the text to the bytes on the paper.
 use Rattle.std.specs.Prelude.{◌≡◌, List, [], ◌∷◌, ◌++◌, ℕ, codes, length}
-use Rattle.std.proofs.Math.Option.{Option, some, none}
+use Rattle.std.proofs.Math.Option.{some, none}
 use Rattle.syntax.specs.Base.{opt, nth}
 use Rattle.syntax.specs.Tree.{CommandList}
 use Rattle.grammar.specs.Grammar.{Parses}

@@ -1,3 +1,5 @@
+#![tactic(auto)]
+
 ghost use Rattle.worked.specs.Examples.{Examples};
 
 // Each text of the examples is the list of commands that it looks like, and gives what stands beside it.

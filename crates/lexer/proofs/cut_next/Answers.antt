@@ -1,4 +1,4 @@
-use Rattle.std.proofs.Common.{false, sym, refl, arith, rules}
+use Rattle.std.proofs.Common.{sym, arith, rules}
 use Rattle.lexer.proofs.Next.{n_quotes, n_open, n_shut, n_line, n_space, n_tab, no_break}
 use Rattle.lexer.proofs.cut_next.Goals as goal
 

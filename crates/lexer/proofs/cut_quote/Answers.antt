@@ -1,4 +1,4 @@
-use Rattle.std.proofs.Common.{false, sym, refl, arith, rules}
+use Rattle.std.proofs.Common.{false, refl, arith, rules}
 use Rattle.lexer.proofs.Next.{n_unclosed, n_quote}
 use Rattle.lexer.proofs.cut_quote.Goals as goal
 

@@ -1,4 +1,4 @@
-use Rattle.std.proofs.Common.{false, sym, refl, arith, rules}
+use Rattle.std.proofs.Common.{false, refl, arith, rules}
 use Rattle.lexer.proofs.Next.{n_two, n_one, n_one_end}
 use Rattle.lexer.proofs.cut_sign.Goals as goal
 

@@ -1,4 +1,4 @@
-use Rattle.std.proofs.Common.{true, sym, refl, arith, rules}
+use Rattle.std.proofs.Common.{true, refl, arith, rules}
 use Rattle.lexer.proofs.Next.{n_unquotes, n_text}
 use Rattle.lexer.proofs.cut_text.Goals as goal
 

@@ -1,4 +1,4 @@
-use Rattle.std.proofs.Common.{false, sym, refl, arith, rules}
+use Rattle.std.proofs.Common.{false, refl, arith, rules}
 use Rattle.lexer.proofs.Next.{n_note, word_glued, word_bare}
 use Rattle.lexer.proofs.cut_word.Goals as goal
 

@@ -1,4 +1,3 @@
-use Rattle.std.proofs.Common.{arith, rules}
 use Rattle.lexer.proofs.Next.{sign_2, twice_last}
 use Rattle.lexer.proofs.double_sign.Goals as goal
 

@@ -1,5 +1,5 @@
-use Rattle.std.proofs.Common.{sym, arith, rules}
-use Rattle.lexer.proofs.Runs.{var_is, var_long}
+use Rattle.std.proofs.Common.{sym, arith}
+use Rattle.lexer.proofs.Runs.{var_is}
 use Rattle.lexer.proofs.is_name.Goals as goal
 
 pub returns : goal.returns

@@ -1,5 +1,5 @@
-use Rattle.std.proofs.Common.{length, drop, sym, ◌∙◌, arith, rules}
-use Rattle.lexer.specs.Stored.{run_length, ends_run}
+use Rattle.std.proofs.Common.{sym, arith, rules}
+use Rattle.lexer.specs.Stored.{ends_run}
 use Rattle.lexer.proofs.Runs.{front_yes, front_no, front_end}
 use Rattle.lexer.proofs.run_end.Goals as goal
 

@@ -1,4 +1,3 @@
-use Rattle.std.proofs.Common.{rules}
 use Rattle.std.proofs.lemmas.Slice.Eq.{slice_eq-Decides}
 use Rattle.lexer.proofs.Runs.{decides_same}
 use Rattle.lexer.proofs.same_bytes.Goals as goal

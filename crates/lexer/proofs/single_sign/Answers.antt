@@ -1,4 +1,3 @@
-use Rattle.std.proofs.Common.{arith, rules}
 use Rattle.lexer.proofs.Next.{sign_1, twice_last}
 use Rattle.lexer.proofs.single_sign.Goals as goal
 

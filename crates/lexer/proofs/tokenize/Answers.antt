@@ -1,4 +1,4 @@
-use Rattle.std.proofs.Common.{sym, refl, ◌∙◌, arith, rules}
+use Rattle.std.proofs.Common.{arith}
 use Rattle.lexer.proofs.Lexing.{begin, step_plain, step_open, step_shut, step_shut_0, finish, finish_quoted, not_back}
 use Rattle.lexer.proofs.tokenize.Goals as goal
 

@@ -1,5 +1,4 @@
-use Rattle.std.proofs.Common.{length, take, sym, ◌∙◌, inl, inr, arith, rules}
-use Rattle.lexer.specs.Stored.{keyword_index}
+use Rattle.std.proofs.Common.{sym, ◌∙◌, arith}
 use Rattle.lexer.proofs.Runs.{key_code, bare_set, bare_else_1, bare_else_2, word_of, key_is}
 use Rattle.lexer.proofs.word_code.Goals as goal
 

@@ -1,5 +1,5 @@
 use Rattle.std.proofs.Common.{◌+◌, ◌≤◌, arith}
-use Rattle.segments.specs.Layout.{field, size, room}
+use Rattle.segments.specs.Layout.{size, room}
 use Rattle.segments.proofs.SegmentLaws.{append_none, append_out, appended, len_is}
 use Rattle.segments.proofs.append_segment.Goals as goal
 

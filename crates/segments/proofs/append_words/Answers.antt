@@ -1,4 +1,3 @@
-use Rattle.std.proofs.Common.{arith}
 use Rattle.segments.proofs.SegmentLaws.{grown}
 use Rattle.segments.proofs.append_words.Goals as goal
 

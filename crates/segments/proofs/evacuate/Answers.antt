@@ -1,7 +1,6 @@
-use Rattle.std.proofs.Common.{◌≡◌, ℕ, ◌+◌, ◌-◌, ◌*◌, ◌/◌, ◌<◌, ◌≤◌, ◌≢◌, length, take, sym, refl, ap, ◌∙◌, ⊎_elim, arith}
+use Rattle.std.proofs.Common.{◌≡◌, ◌+◌, ◌/◌, refl, ◌∙◌, arith}
 use Rattle.std.proofs.lemmas.List.{take_all}
-use Rattle.std.proofs.lemmas.Bool.{cases_eq}
-use Rattle.segments.specs.Layout.{field, segs, size, room, spread}
+use Rattle.segments.specs.Layout.{segs, size}
 use Rattle.segments.proofs.Moves.{turn_room, turn_next, turn_free, turn_early, turn_late, turn_rooms, spread_none}
 use Rattle.segments.proofs.Table.{length_segs}
 use Rattle.segments.proofs.evacuate.Goals as goal

@@ -1,5 +1,5 @@
 use Rattle.std.proofs.Common.{◌≡◌, ℕ, ◌+◌, ◌/◌, ◌<◌, take}
-use Rattle.segments.specs.Layout.{field, size, room, mark, segs, Good, Within, spread}
+use Rattle.segments.specs.Layout.{size, room, mark, segs, Good, Within, spread}
 use Rattle.segments.proofs.evacuate.Given as goal
 
 abbrev pub invariant-loop-k : goal.invariant-loop-k

@@ -1,5 +1,5 @@
 use Rattle.std.proofs.Common.{◌≡◌, ℕ, ◌<◌, ◌≤◌}
-use Rattle.segments.specs.Layout.{field, mark}
+use Rattle.segments.specs.Layout.{mark}
 use Rattle.segments.proofs.first_unused.Given as goal
 
 abbrev pub invariant-loop-k : goal.invariant-loop-k

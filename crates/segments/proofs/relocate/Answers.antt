@@ -1,5 +1,4 @@
-use Rattle.std.proofs.Common.{arith}
-use Rattle.segments.proofs.SegmentLaws.{moved_is, free_out}
+use Rattle.segments.proofs.SegmentLaws.{moved_is}
 use Rattle.segments.proofs.relocate.Goals as goal
 
 pub returns : goal.returns

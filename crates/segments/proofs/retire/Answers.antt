@@ -1,4 +1,3 @@
-use Rattle.std.proofs.Common.{arith}
 use Rattle.segments.proofs.Entries.{marked_is}
 use Rattle.segments.proofs.retire.Goals as goal
 

@@ -1,5 +1,5 @@
 use Rattle.std.proofs.Common.{ℕ, ◌<◌, ◌≤◌, ◌≢◌}
-use Rattle.segments.specs.Layout.{field, mark}
+use Rattle.segments.specs.Layout.{mark}
 use Rattle.segments.proofs.used_front.Given as goal
 
 abbrev pub invariant-loop-m : goal.invariant-loop-m
