@@ -1,5 +1,5 @@
 -- What an answer says of each kind of code: it is right for every tree that is coded at the address and not too deep.
-use Rattle.std.specs.Prelude.{◌≡◌, ℕ, ◌+◌, ◌<◌, Bool, true, false, ◌&&◌, List, slice_index}
+use Rattle.std.specs.Prelude.{◌≡◌, ℕ, ◌+◌, ◌<◌, Bool, true, ◌&&◌, List, slice_index}
 use Rattle.syntax.specs.Base.{Name}
 use Rattle.syntax.specs.Tree.{Word, Words, Assignments, Redirects, Command, simple, group, if, while, ElsePart, Pipeline, AndOr, CommandList}
 use Rattle.syntax.specs.Depth.{list_depth, and_or_depth, pipeline_depth, command_depth, else_depth}

@@ -1,4 +1,6 @@
 //! Which texts are run: a look at the code before the first move.
+#![tactic(auto)]
+
 ghost use Rattle.std.specs.Prelude.{◌≡◌, ◌≤◌, take, drop, slice_index};
 ghost use Rattle.syntax.specs.Base.{same};
 ghost use Rattle.syntax.specs.Tree.{CommandList};
