@@ -3,8 +3,8 @@
 set -e
 here=$(cd "$(dirname "$0")" && pwd)
 cd "$here/../.."
-rt staticlib store_bench
+(cd crates/store_bench && rt lib)
 out=target/bench/store
 mkdir -p "$out"
-rustc --edition 2024 -C opt-level=3 -C target-cpu=native -o "$out/bench" "$here/bench.rs" -L target/staticlib -l static=store_bench
+rustc --edition 2024 -C opt-level=3 -C target-cpu=native -o "$out/bench" "$here/bench.rs" -L crates/store_bench/out -l static=store_bench
 "$out/bench"

@@ -1,4 +1,6 @@
 // What the bench in bench/store calls: rounds of pushes into the lists of one store.
+#![tactic(auto)]
+
 ghost use Rattle.std.specs.Prelude.{◌≡◌};
 ghost use Rattle.store.specs.Held.{Held};
 

@@ -1,4 +1,6 @@
 // Tests of the store: long runs beside a `Vec<Vec<u32>>`, and refusals at the exact word.
+#![tactic(auto)]
+
 #[cfg(test)]
 mod mirror;
 #[cfg(test)]

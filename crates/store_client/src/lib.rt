@@ -1,4 +1,6 @@
 // A small machine over a store: what code above the store looks like, and how its proofs go.
+#![tactic(auto)]
+
 ghost use Rattle.std.specs.Prelude.{◌≡◌, ℕ, ◌+◌, ◌-◌, ◌*◌, ◌/◌, ◌<◌, ◌≤◌, true, false, cond, List, [], ◌∷◌, ◌++◌, length, IfSome, IfOk, Err, OnOk, slice_index, slice_index_or, slice_set};
 ghost use Rattle.segments.specs.Layout.{need};
 ghost use Rattle.store.specs.declared.Refusal.TheVariants.{NoRoom};

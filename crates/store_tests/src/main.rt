@@ -1,4 +1,6 @@
 // Long runs on a small store, each step compared with a `Vec<Vec<u32>>`.
+#![tactic(auto)]
+
 ghost use Rattle.std.specs.Prelude.{◌≡◌};
 ghost use Rattle.store.specs.Held.{Held};
 

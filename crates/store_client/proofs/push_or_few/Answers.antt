@@ -1,4 +1,4 @@
-use Rattle.std.proofs.Common.{◌≡◌, ◌+◌, [], length, get_or, sym, ◌∙◌}
+use Rattle.std.proofs.Common.{◌+◌, [], length, get_or, sym, ◌∙◌}
 use Rattle.store.specs.Held.{model, bounds}
 use Rattle.store.proofs.Bounds.{no_room, told_no_room}
 use Rattle.store_client.proofs.push_or_few.Goals as goal

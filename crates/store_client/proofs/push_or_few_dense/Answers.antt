@@ -1,4 +1,4 @@
-use Rattle.std.proofs.Common.{◌≡◌, ℕ, ◌+◌, Bool, List, [], length, get_or, sym, ap, ◌∙◌}
+use Rattle.std.proofs.Common.{ℕ, ◌+◌, Bool, List, [], length, get_or, sym, ap, ◌∙◌}
 use Rattle.store.specs.Held.{model, bounds}
 use Rattle.store.proofs.Bounds.{few_for_words}
 use Rattle.store.proofs.Density.{dense_by}
@@ -10,6 +10,6 @@ returns c =
     let e = c.push.ensures in
     record {
       held = e.held;
-      dense = dense_by _ _ (ap (λ (p : ℕ × List Bool). p.1) e.same) c.requires.1;
-      few = λ r all q. few_for_words all (bounds s) (model s) c.args.i (length (get_or (model s) c.args.i []) + 1) q c.requires.1 (sym e.says ∙ r);
+      dense = dense_by _ _ (ap (λ (p : ℕ × List Bool). p.1) e.same) c.requires.dense_2;
+      few = λ r all q. few_for_words all (bounds s) (model s) c.args.i (length (get_or (model s) c.args.i []) + 1) q c.requires.dense_2 (sym e.says ∙ r);
     }
