@@ -159,15 +159,15 @@ pub fn run_builtin(
     words: &mut VecDeque<Vec<u8>>,
 ) -> Result<StepResult, AllocError> {
     let heap = s.heap;
-    if name == b"echo" {
+    if name == b"echo".as_slice() {
         prints(w, joined_line(heap, words)?, Builtin::Done(0))
-    } else if name == b"cat" {
+    } else if name == b"cat".as_slice() {
         start_cat(heap, w, words)
-    } else if name == b"head" {
+    } else if name == b"head".as_slice() {
         start_head(heap, w, words)
-    } else if name == b"wc" {
+    } else if name == b"wc".as_slice() {
         builtin_at(w, Builtin::Wc { lines: 0, bytes: 0 })
-    } else if name == b"grep" {
+    } else if name == b"grep".as_slice() {
         let pattern = first_or(heap, words, b"")?;
         builtin_at(
             w,
@@ -177,11 +177,11 @@ pub fn run_builtin(
                 found: false,
             },
         )
-    } else if name == b"seq" {
+    } else if name == b"seq".as_slice() {
         start_seq(w, words)
-    } else if name == b"yes" {
+    } else if name == b"yes".as_slice() {
         builtin_at(w, Builtin::Yes(as_line(first_or(heap, words, b"y")?)?))
-    } else if name == b"read" {
+    } else if name == b"read".as_slice() {
         start_read(heap, w, words)
     } else {
         run_other(s, w, name, words)
@@ -195,21 +195,21 @@ fn run_other(
     name: &[u8],
     words: &VecDeque<Vec<u8>>,
 ) -> Result<StepResult, AllocError> {
-    if name == b"rm" {
+    if name == b"rm".as_slice() {
         remove_files(s, words);
         completes(w, 0)
-    } else if name == b"true" {
+    } else if name == b"true".as_slice() {
         completes(w, 0)
-    } else if name == b"false" {
+    } else if name == b"false".as_slice() {
         completes(w, 1)
-    } else if name == b"test" {
+    } else if name == b"test".as_slice() {
         let status = test_status(s, words);
         completes(w, status)
-    } else if name == b"exit" {
+    } else if name == b"exit".as_slice() {
         start_unwind(s.heap, w, Unwind::Exit, words)
-    } else if name == b"return" {
+    } else if name == b"return".as_slice() {
         start_unwind(s.heap, w, Unwind::Return, words)
-    } else if name == b"break" {
+    } else if name == b"break".as_slice() {
         goes_to(
             w,
             Control::Unwind {
@@ -217,7 +217,7 @@ fn run_other(
                 status: 0,
             },
         )
-    } else if name == b"continue" {
+    } else if name == b"continue".as_slice() {
         goes_to(
             w,
             Control::Unwind {
@@ -225,10 +225,10 @@ fn run_other(
                 status: 0,
             },
         )
-    } else if name == b"shift" {
+    } else if name == b"shift".as_slice() {
         let _ = w.arguments.pop_front();
         completes(w, 0)
-    } else if name == b"wait" {
+    } else if name == b"wait".as_slice() {
         let jobs = std::mem::replace(&mut w.jobs, Vec::new(s.heap));
         goes_to(w, Control::Wait(jobs))
     } else {

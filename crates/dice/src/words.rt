@@ -300,9 +300,9 @@ pub fn status_of(b: bool) -> u32
 
 /// -n a: not empty; -e a: there is such a file.
 fn test2(s: &System, op: &[u8], a: &[u8]) -> u32 {
-    if op == b"-n" {
+    if op == b"-n".as_slice() {
         status_of(!a.is_empty())
-    } else if op == b"-e" {
+    } else if op == b"-e".as_slice() {
         status_of(find_file(&s.files, a).is_some())
     } else {
         2
@@ -311,17 +311,17 @@ fn test2(s: &System, op: &[u8], a: &[u8]) -> u32 {
 
 /// a = b and a != b compare bytes, a -lt b and a -eq b numbers.
 fn test3(a: &[u8], op: &[u8], b: &[u8]) -> u32 {
-    if op == b"=" {
+    if op == b"=".as_slice() {
         return status_of(a == b);
     }
-    if op == b"!=" {
+    if op == b"!=".as_slice() {
         return status_of(a != b);
     }
-    if op != b"-lt" && op != b"-eq" {
+    if op != b"-lt".as_slice() && op != b"-eq".as_slice() {
         return 2;
     }
     match (number(a), number(b)) {
-        (Some(m), Some(n)) if op == b"-lt" => status_of(m < n),
+        (Some(m), Some(n)) if op == b"-lt".as_slice() => status_of(m < n),
         (Some(m), Some(n)) => status_of(m == n),
         _ => 2,
     }

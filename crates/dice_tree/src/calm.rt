@@ -217,7 +217,7 @@ fn harmless(heap: Global, tree: &Tree, words: Words) -> Result<bool, Fault> {
     let Some(name) = literal_word(heap, tree, word)? else {
         return Ok(false);
     };
-    Ok(name.as_slice() != b"rm" && name.as_slice() != b"read")
+    Ok(name.as_slice() != b"rm".as_slice() && name.as_slice() != b"read".as_slice())
 }
 
 fn calm_arms(

@@ -56,17 +56,17 @@ pub fn valid_name(name: &[u8]) -> bool
 
 /// What a word that stands alone is where a command may begin.
 fn keyword(word: &[u8]) -> Lookahead {
-    if word == b"if" {
+    if word == b"if".as_slice() {
         Lookahead::If
-    } else if word == b"while" {
+    } else if word == b"while".as_slice() {
         Lookahead::While
-    } else if word == b"for" {
+    } else if word == b"for".as_slice() {
         Lookahead::For
-    } else if word == b"case" {
+    } else if word == b"case".as_slice() {
         Lookahead::Case
-    } else if word == b"{" {
+    } else if word == b"{".as_slice() {
         Lookahead::Brace
-    } else if word == b"!" {
+    } else if word == b"!".as_slice() {
         Lookahead::Not
     } else if closing_keyword(word) {
         Lookahead::Keyword
@@ -92,13 +92,13 @@ fn reserved(word: &[u8]) -> bool {
 }
 
 fn sign(sign: &[u8]) -> Lookahead {
-    if sign == b"(" {
+    if sign == b"(".as_slice() {
         Lookahead::Paren
-    } else if sign == b")" {
+    } else if sign == b")".as_slice() {
         Lookahead::CloseParen
-    } else if sign == b"\n" {
+    } else if sign == b"\n".as_slice() {
         Lookahead::Newline
-    } else if sign == b";;" {
+    } else if sign == b";;".as_slice() {
         Lookahead::DoubleSemicolon
     } else {
         Lookahead::OtherSign
@@ -327,7 +327,8 @@ impl Parser {
         let Some(next) = self.tokens.get(self.at.saturating_add(1)) else {
             return false;
         };
-        let paren = matches!(next.kind, TokenKind::Sign) && self.tree.bytes(next.bytes) == b"(";
+        let paren = matches!(next.kind, TokenKind::Sign)
+            && self.tree.bytes(next.bytes) == b"(".as_slice();
         matches!(token.kind, TokenKind::Bare) && paren
     }
 }

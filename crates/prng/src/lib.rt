@@ -1,5 +1,7 @@
 //! Numbers that look random, the same for the same seed.
 
+#![tactic(auto)]
+
 ghost use Rattle.std.specs.Prelude.{◌≡◌, ◌+◌, ◌%◌, ◌^◌, ◌<◌};
 
 /// Numbers that look random, the same for the same seed.

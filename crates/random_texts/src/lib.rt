@@ -2,6 +2,8 @@
 //! bytes are left. Texts of every stage come, half of them calm by how they are made; they are kept small, so that most
 //! of them end. Mutated texts are such texts with a sign or a reserved word put into them, mostly no texts.
 
+#![tactic(auto)]
+
 ghost use Rattle.std.specs.Prelude.{◌≤◌, IfOk, vec_len};
 
 use prng::Dice;
