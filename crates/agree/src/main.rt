@@ -1,6 +1,8 @@
 //! Runs the texts that are kept as data, and random ones, and compares what they give. For now with one runner, whose
 //! moves are drawn by dice; another one is to be compared where `check_run` and `check_dice` say so.
 
+#![tactic(auto)]
+
 mod compare;
 mod random;
 mod records;

@@ -120,15 +120,15 @@ fn content(draft: &mut Draft, line: &[u8]) -> Result<bool, AllocError> {
 
 /// A line that names a section or the stage.
 fn heading(draft: &mut Draft, line: &[u8]) {
-    if line == b"input" {
+    if line == b"input".as_slice() {
         draft.section = Section::Input;
-    } else if line == b"paper" {
+    } else if line == b"paper".as_slice() {
         draft.section = Section::Paper;
         draft.has_paper = true;
     } else if let Some(rest) = behind(line, b"stage ") {
         let (stage, rest) = leading_number(rest);
         draft.stage = stage;
-        draft.calm = rest == b" calm";
+        draft.calm = rest == b" calm".as_slice();
     }
 }
 
@@ -140,7 +140,7 @@ fn expected_outcome(heap: Global, line: &[u8]) -> Result<Option<Expectation>, Al
     if let Some(rest) = behind(line, b"no text ") {
         return Ok(Some(Expectation::NoText(rest.to_vec(heap)?)));
     }
-    if line == b"spent" {
+    if line == b"spent".as_slice() {
         Ok(Some(Expectation::Spent))
     } else {
         Ok(None)
