@@ -1,5 +1,5 @@
 -- A place in a text as line and column, both from 1.
-use Rattle.std.specs.Prelude.{ℕ, zero, suc, ◌+◌, List, [], ◌∷◌, ◌==◌}
+use Rattle.std.specs.Prelude.{ℕ, suc, List, [], ◌∷◌, ◌==◌}
 use Rattle.syntax.specs.Base.{pick}
 use Rattle.front.specs.declared.Place.{Place}
 

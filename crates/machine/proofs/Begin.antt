@@ -1,7 +1,7 @@
 -- A command begins.
-use Rattle.std.proofs.Common.{◌≡◌, ℕ, zero, suc, ◌+◌, ◌-◌, ◌*◌, ◌%◌, ◌<◌, ◌≤◌, min, Bool, true, false, List, [], ◌∷◌, ◌++◌, length, get_or, take, drop, set, Some, None, codes, Option as Maybe, sym, refl, ap, ◌∙◌, subst, arith}
-use mathlib.Core.Option.{Option, some, none}
-use Rattle.std.proofs.lemmas.List.{append_assoc, append-nil, length-append, length-drop, length-take, drop-drop, take_all}
+use Rattle.std.proofs.Common.{◌≡◌, ℕ, suc, ◌+◌, ◌%◌, ◌<◌, ◌≤◌, min, Bool, true, false, List, [], ◌∷◌, ◌++◌, length, get_or, take, drop, set, Some, None, codes, Option as Maybe, sym, refl, ap, ◌∙◌, subst, arith}
+use mathlib.Core.Option.{some}
+use Rattle.std.proofs.lemmas.List.{length-append, length-drop, length-take, drop-drop}
 use Rattle.segments.specs.Layout.{need}
 use Rattle.syntax.specs.Tree.{no_redirects}
 use Rattle.meaning.specs.System.{QuotedByte, b_print, b_done, b_seq, b_yes, then_invoke, Control, at_redirects, at_builtin, at_status, at_unwind, break, continue, exit, Frame, Process, System}
@@ -20,7 +20,7 @@ use Rattle.machine.specs.Commands.{name_of, name_at, at_once, lacks}
 use Rattle.machine.specs.Arguments.{exit_number, chosen}
 use Rattle.machine.specs.Decide.{going}
 use Rattle.machine.specs.Represent.{Rest, process, abstract, Has, ControlRep, r_invoke, r_print, r_status, r_unwind, r_builtin, r_done, r_seq, r_yes, Rep}
-use Rattle.machine.specs.Promises.{Scarce, StepsTo, After, size, Beyond, no_builtin, Tight, tight_now, tight_then}
+use Rattle.machine.specs.Promises.{Scarce, StepsTo, After, Beyond, no_builtin, Tight, tight_now}
 use Rattle.machine.proofs.Places.{now_words, now_text, now_line, kept_none, kept_set, kept_then}
 use Rattle.machine.proofs.Texts.{rev_length, shown_length, encoded_length, behind, shown_words, line_bytes, span, span_from}
 use Rattle.machine.specs.declared.arguments.Range.{Range}

@@ -1,20 +1,18 @@
 -- Steps over words being expanded.
-use Rattle.std.proofs.Common.{◌≡◌, ℕ, zero, suc, ◌+◌, ◌-◌, ◌*◌, ◌<◌, ◌≤◌, Bool, true, false, List, [], ◌∷◌, ◌++◌, length, get_or, take, drop, set, sym, refl, ap, ◌∙◌, subst, arith}
-use mathlib.Core.Option.{Option, some, none}
-use Rattle.std.proofs.lemmas.List.{append_assoc, append-nil, length-append}
+use Rattle.std.proofs.Common.{◌≡◌, ℕ, suc, ◌+◌, ◌<◌, ◌≤◌, Bool, true, false, List, [], ◌∷◌, ◌++◌, length, get_or, take, drop, set, sym, refl, ap, ◌∙◌, arith}
+use mathlib.Core.Option.{some, none}
+use Rattle.std.proofs.lemmas.List.{append_assoc, length-append}
 use Rattle.segments.specs.Layout.{need}
-use Rattle.syntax.specs.Tree.{literal, parameter, substitution, Word, no_parts, and_part, Words, no_words, and_word, no_redirects}
+use Rattle.syntax.specs.Tree.{literal, parameter, substitution, no_parts, and_part, no_words, and_word, no_redirects}
 use Rattle.reader.specs.Layout.{flag}
-use Rattle.reader.specs.Code.{WordsCode, WordCode}
 use Rattle.meaning.specs.System.{QuotedByte, then_invoke, to_invoke, Control, at_words, at_redirects, Frame, f_handles}
 use Rattle.meaning.specs.Words.{close_word, quote_bytes}
 use Rattle.machine.specs.declared.process.Control.TheVariants.{AtWords, AtInvoke}
 use Rattle.machine.specs.declared.process.Process.{Process as Process'}
-use Rattle.machine.specs.Encoding.{at, encoded, coded, marked, plain, Bytes, AllSmall, opened, mark, patterned, any_pattern}
+use Rattle.machine.specs.Encoding.{at, encoded, coded, marked, plain, Bytes, mark, patterned, any_pattern}
 use Rattle.machine.specs.Decide.{going}
-use Rattle.machine.specs.Represent.{Rest, abstract, ControlRep, r_words, r_invoke, Rep}
-use Rattle.machine.specs.Promises.{framed, Pushed, Scarce, StepsTo, After, Beyond, no_parameter, no_substitution, no_pattern, Tight, tight_now, tight_then}
-use Rattle.machine.proofs.Pushes.{differ}
+use Rattle.machine.specs.Represent.{Rest, ControlRep, r_words, r_invoke, Rep}
+use Rattle.machine.specs.Promises.{framed, Pushed, Scarce, After, Beyond, no_parameter, no_substitution, no_pattern, Tight, tight_then}
 use Rattle.machine.proofs.Places.{now_frames, now_words, kept_none, kept_set}
 use Rattle.machine.proofs.Texts.{coded_is, pattern_words, all_plain, bytes_part, small_quoted, small_append, small_push, small_last, encoded_append, marked_push}
 

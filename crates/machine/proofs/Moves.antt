@@ -1,16 +1,16 @@
 -- Steps as moves of a system.
-use Rattle.std.proofs.Common.{◌≡◌, ℕ, zero, suc, ◌+◌, ◌-◌, ◌*◌, ◌<◌, ◌≤◌, Bool, true, false, eqb, ◌⊎◌, List, [], ◌∷◌, ◌++◌, length, get_or, take, drop, set, replicate, sym, refl, ap, ◌∙◌, subst, inl, inr, arith}
+use Rattle.std.proofs.Common.{◌≡◌, ℕ, zero, suc, ◌+◌, ◌<◌, Bool, true, false, eqb, List, [], ◌∷◌, ◌++◌, take, drop, set, replicate, sym, refl, ap, ◌∙◌, subst, inl, arith}
 use mathlib.Core.Option.{Option, some, none}
 use Rattle.syntax.specs.Base.{pick, on_some, nth}
-use Rattle.meaning.specs.System.{Control, Frame, Process, System, host_paper, with_processes, with_paper, find_process, replace, without}
-use Rattle.meaning.specs.Step.{StepResult, continues, exits, step, settle, move, moves}
+use Rattle.meaning.specs.System.{Control, Frame, Process, System, host_paper, with_processes, with_paper, find_process, replace}
+use Rattle.meaning.specs.Step.{continues, exits, step, settle, move, moves}
 use Rattle.machine.specs.declared.process.Process.{Process as Process'}
 use Rattle.machine.specs.declared.step.Step.{Step}
 use Rattle.machine.specs.declared.step.Step.TheVariants.{Continues, Prints, Exits, NoRoom, PaperFull, Unsupported}
-use Rattle.machine.specs.declared.stretch.Ending.TheVariants.{Spent, Exited as Exited', NoRoom as NoRoom', PaperFull as PaperFull', Unsupported as Unsupported'}
+use Rattle.machine.specs.declared.stretch.Ending.TheVariants.{Exited as Exited', NoRoom as NoRoom', PaperFull as PaperFull', Unsupported as Unsupported'}
 use Rattle.machine.specs.Represent.{Rest, abstract, Kept, Rep}
 use Rattle.std.proofs.lemmas.List.{length-set, take_more_set, drop-set-lt, drop-drop}
-use Rattle.machine.specs.Promises.{Does, Stepped, Printed, Filled, After, Ends, Tight, Beyond}
+use Rattle.machine.specs.Promises.{Does, Stepped}
 use Rattle.machine.specs.Stretches.{with_process, Reached, Stands, EndSays}
 use Rattle.machine.proofs.Places.{kept_none, kept_then}
 

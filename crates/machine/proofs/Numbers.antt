@@ -1,10 +1,9 @@
 -- Numbers that are read.
-use Rattle.std.proofs.Common.{◌≡◌, ℕ, zero, suc, ◌+◌, ◌-◌, ◌*◌, ◌/◌, ◌%◌, ◌^◌, ◌<◌, ◌≤◌, Bool, true, false, ◌&&◌, eqb, leb, List, [], ◌∷◌, ◌++◌, length, get_or, take, drop, Some, None, codes, Option as Maybe, sym, refl, ap, ◌∙◌, subst, ⊎_elim, arith, pow-add}
+use Rattle.std.proofs.Common.{◌≡◌, ℕ, zero, suc, ◌+◌, ◌-◌, ◌*◌, ◌%◌, ◌^◌, ◌<◌, ◌≤◌, Bool, true, false, ◌&&◌, eqb, leb, List, [], ◌∷◌, ◌++◌, length, get_or, take, drop, Some, None, codes, Option as Maybe, sym, refl, ap, ◌∙◌, subst, ⊎_elim, arith, pow-add}
 use mathlib.Core.Option.{Option, some, none}
-use Rattle.std.proofs.lemmas.List.{drop_more, drop_all, take_at, take_all, length-drop, length-take, length-append}
+use Rattle.std.proofs.lemmas.List.{drop_more, drop_all, take_at, take_all, length-take}
 use Rattle.std.proofs.lemmas.Bool.{cases_lt}
-use Rattle.syntax.specs.Base.{pick, opt}
-use Rattle.reader.specs.Layout.{flag}
+use Rattle.syntax.specs.Base.{opt}
 use Rattle.meaning.specs.System.{QuotedByte}
 use Rattle.meaning.specs.Words.{decimal, digits_value, number, bytes_of, first_or}
 use Rattle.machine.specs.Encoding.{encoded, marked, plain, Small, AllSmall, Bytes, shown, rev, word_length}

@@ -1,15 +1,14 @@
 -- Printing, and a builtin between prints.
-use Rattle.std.proofs.Common.{◌≡◌, ℕ, zero, suc, ◌+◌, ◌-◌, ◌*◌, ◌%◌, ◌<◌, ◌≤◌, min, Bool, true, false, leb, List, [], ◌∷◌, ◌++◌, length, get_or, take, drop, set, sym, refl, ap, ◌∙◌, subst, arith}
-use mathlib.Core.Option.{Option, some, none}
+use Rattle.std.proofs.Common.{◌≡◌, ℕ, suc, ◌+◌, ◌-◌, ◌%◌, ◌<◌, ◌≤◌, min, Bool, true, false, leb, List, [], ◌∷◌, ◌++◌, length, get_or, take, set, refl, ap, ◌∙◌, arith}
 use Rattle.std.proofs.lemmas.List.{length-append, get_or_at, take_at}
-use Rattle.meaning.specs.System.{Control, b_print, b_done, b_seq, b_yes, at_builtin, at_status, Frame}
+use Rattle.meaning.specs.System.{Control, b_print, b_seq, b_yes, at_builtin, at_status, Frame}
 use Rattle.machine.specs.declared.process.Builtin.{Builtin as Builtin'}
 use Rattle.machine.specs.declared.process.Builtin.TheVariants.{Done, Seq, Yes}
 use Rattle.machine.specs.declared.process.Control.TheVariants.{AtPrint, AtBuiltin, AtStatus}
 use Rattle.machine.specs.declared.process.Process.{Process as Process'}
-use Rattle.machine.specs.Encoding.{Bytes, rev}
+use Rattle.machine.specs.Encoding.{rev}
 use Rattle.machine.specs.Decide.{going}
-use Rattle.machine.specs.Represent.{Rest, abstract, ControlRep, r_print, r_builtin, r_status, BuiltinRep, r_done, r_seq, r_yes, Rep}
+use Rattle.machine.specs.Represent.{Rest, abstract, ControlRep, r_print, r_builtin, r_status, r_done, r_seq, r_yes, Rep}
 use Rattle.machine.specs.Promises.{Scarce, After, Printed, Filled, Tight, tight_now, tight_then}
 use Rattle.machine.proofs.Places.{now_text, kept_none, kept_set}
 use Rattle.segments.specs.Layout.{need}

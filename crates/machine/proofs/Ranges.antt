@@ -1,16 +1,16 @@
 -- The arguments of seq.
-use Rattle.std.proofs.Common.{◌≡◌, ℕ, zero, suc, ◌+◌, ◌-◌, ◌<◌, ◌≤◌, List, [], ◌∷◌, ◌++◌, length, take, drop, Some, None, Option as Maybe, sym, refl, ap, ◌∙◌, subst, arith}
+use Rattle.std.proofs.Common.{◌≡◌, ℕ, suc, ◌+◌, ◌-◌, ◌<◌, ◌≤◌, List, [], ◌∷◌, ◌++◌, length, take, drop, Some, None, Option as Maybe, sym, refl, ap, ◌∙◌, arith}
 use mathlib.Core.Option.{Option, some, none}
 use Rattle.std.proofs.lemmas.List.{append-nil, length-append, drop_at, drop-drop, take_at}
 use Rattle.syntax.specs.Base.{opt}
 use Rattle.meaning.specs.System.{QuotedByte, b_seq, Process, System}
 use Rattle.meaning.specs.Words.{number, bytes_of}
-use Rattle.meaning.specs.Step.{StepResult, completes, start_builtin, start_seq}
+use Rattle.meaning.specs.Step.{completes, start_builtin, start_seq}
 use Rattle.machine.specs.declared.arguments.Range.{Range}
 use Rattle.machine.specs.Encoding.{encoded, marked, plain, Small, AllSmall, word_length}
-use Rattle.machine.specs.Arguments.{maybe, number_of, lows}
+use Rattle.machine.specs.Arguments.{maybe, number_of}
 use Rattle.machine.specs.Ranges.{seq_range}
-use Rattle.machine.proofs.Texts.{encoded_length, word_is, tail_is, rest_is}
+use Rattle.machine.proofs.Texts.{encoded_length, word_is, tail_is}
 use Rattle.machine.proofs.Numbers.{some_number, no_number, lows_encoded}
 
 pub range_empty : (A : List ℕ) (es : List (List QuotedByte)) → length A ≡ 0 → A ≡ marked es → None ≡ seq_range es

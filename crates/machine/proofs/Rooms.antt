@@ -1,5 +1,5 @@
 -- How many words a process has in its lists.
-use Rattle.std.proofs.Common.{◌≡◌, ℕ, suc, ◌+◌, ◌≤◌, Bool, List, [], ◌∷◌, ◌++◌, length, get_or, sym, refl, ap, ◌∙◌, arith}
+use Rattle.std.proofs.Common.{◌≡◌, ℕ, suc, ◌+◌, ◌≤◌, List, [], ◌∷◌, ◌++◌, length, refl, ap, arith}
 use mathlib.Core.Option.{Option, some, none}
 use Rattle.std.proofs.lemmas.List.{length-append}
 use Rattle.syntax.specs.Base.{opt}
@@ -8,8 +8,8 @@ use Rattle.meaning.specs.Words.{bytes_of, close_word}
 use Rattle.meaning.specs.Space.{words_size, builtin_size, control_size, frames_size}
 use Rattle.machine.specs.declared.process.Builtin.{Builtin as Builtin'}
 use Rattle.machine.specs.declared.process.Control.{Control as Control'}
-use Rattle.machine.specs.Encoding.{encoded, marked, plain, rev}
-use Rattle.machine.specs.Represent.{BuiltinRep, r_done, r_seq, r_yes, ControlRep, r_list, r_and_or, r_pipeline, r_command, r_words, r_invoke, r_print, r_builtin, r_status, r_unwind, FramesRep, Rep}
+use Rattle.machine.specs.Encoding.{encoded, marked, plain}
+use Rattle.machine.specs.Represent.{BuiltinRep, r_done, r_seq, r_yes, ControlRep, r_list, r_and_or, r_pipeline, r_command, r_words, r_invoke, r_print, r_builtin, r_status, r_unwind, FramesRep}
 use Rattle.machine.specs.Room.{OwnRoom, RefusalBound}
 use Rattle.machine.proofs.Texts.{rev_length, encoded_length}
 

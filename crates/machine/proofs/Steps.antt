@@ -1,20 +1,20 @@
 -- A step over trees and frames, as a step of the process that is represented.
-use Rattle.std.proofs.Common.{◌≡◌, ℕ, zero, suc, ◌+◌, ◌-◌, ◌*◌, ◌<◌, ◌≤◌, Bool, true, false, eqb, ltb, List, [], ◌∷◌, ◌++◌, length, get_or, take, drop, set, Some, None, Option as Maybe, sym, refl, ap, ◌∙◌, subst, arith}
+use Rattle.std.proofs.Common.{◌≡◌, ℕ, zero, suc, ◌+◌, ◌-◌, ◌<◌, ◌≤◌, Bool, true, false, eqb, ltb, List, [], ◌∷◌, ◌++◌, length, get_or, set, Some, None, Option as Maybe, sym, refl, ap, ◌∙◌, subst, arith}
 use mathlib.Core.Option.{Option, some, none}
-use Rattle.std.proofs.lemmas.List.{append_assoc, append-nil, length-append, get_or_at, take_at, set_at, get_or-append-add}
+use Rattle.std.proofs.lemmas.List.{append_assoc, append-nil, length-append, take_at, set_at, get_or-append-add}
 use Rattle.segments.specs.Layout.{need}
 use Rattle.syntax.specs.Base.{pick}
 use Rattle.meaning.specs.System.{Control, at_status, at_unwind, Frame}
 use Rattle.machine.specs.declared.process.Unwind.{Unwind as Unwind'}
 use Rattle.machine.specs.declared.process.Control.{Control as Control'}
-use Rattle.machine.specs.declared.process.Control.TheVariants.{AtList, AtAndOr, AtPipeline, AtCommand, AtWords, AtInvoke, AtPrint, AtBuiltin, AtStatus, AtUnwind}
+use Rattle.machine.specs.declared.process.Control.TheVariants.{AtStatus, AtUnwind}
 use Rattle.machine.specs.declared.process.Process.{Process as Process'}
 use Rattle.machine.specs.declared.control.Frame.{Frame as Frame'}
 use Rattle.machine.specs.declared.control.Next.{Next}
 use Rattle.machine.specs.declared.control.Resumed.{Resumed}
 use Rattle.machine.specs.Decide.{going, Tree, tree_next, status_next, unwind_next}
-use Rattle.machine.specs.Represent.{Rest, abstract, unwind_is, Lists, Has, ControlRep, r_list, r_and_or, r_pipeline, r_command, r_words, r_invoke, r_print, r_builtin, r_status, r_unwind, FrameRep, FramesRep, Rep}
-use Rattle.machine.specs.Promises.{framed, top_frame, settled, Scarce, StepsTo, Ends, After, Keeps, kept_frame, Beyond, Grows, Leads, Backs, Tight, tight_now, tight_then}
+use Rattle.machine.specs.Represent.{Rest, abstract, unwind_is, Has, ControlRep, r_list, r_and_or, r_pipeline, r_command, r_words, r_invoke, r_print, r_builtin, r_status, r_unwind, FrameRep, FramesRep, Rep}
+use Rattle.machine.specs.Promises.{framed, top_frame, settled, Scarce, StepsTo, Ends, After, Keeps, kept_frame, Beyond, Grows, Leads, Backs, Tight, tight_now}
 use Rattle.machine.proofs.Trees.{list_leads, and_or_leads, pipeline_leads, command_leads, status_backs, unwind_backs}
 use Rattle.machine.proofs.Places.{now_frames, kept_set}
 

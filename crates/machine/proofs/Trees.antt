@@ -1,23 +1,19 @@
 -- Each decision is a step of the process that it stands for: trees and frames.
-use Rattle.std.proofs.Common.{◌≡◌, ℕ, zero, suc, ◌+◌, ◌<◌, ◌≤◌, Bool, true, false, eqb, List, [], ◌∷◌, ◌++◌, Some, None, Option as Maybe, sym, refl, ap, ◌∙◌, subst, arith}
-use mathlib.Core.Option.{Option, some, none}
-use Rattle.syntax.specs.Base.{pick}
-use Rattle.syntax.specs.Tree.{Words, no_words, and_word, Assignments, no_assignments, assign, Redirects, no_redirects, redirect, Command, simple, group, subshell, if, while, for, case, function, ElsePart, no_else, else, Pipeline, single, piped, AndOr, first, joined, CommandList, end, next}
+use Rattle.std.proofs.Common.{◌≡◌, ℕ, ◌+◌, ◌<◌, Bool, true, false, eqb, List, ◌∷◌, refl, arith}
+use mathlib.Core.Option.{some, none}
+use Rattle.syntax.specs.Tree.{Words, no_words, and_word, no_assignments, assign, no_redirects, redirect, Command, simple, group, subshell, if, while, for, case, function, no_else, else, Pipeline, single, piped, AndOr, first, joined, CommandList, end, next}
 use Rattle.reader.specs.Layout.{flag}
-use Rattle.reader.specs.Code.{ListCode, AndOrCode, PipelineCode, CommandCode, RedirectsCode, AssignmentsCode, ElseCode, WordsCode, WordCode}
-use Rattle.meaning.specs.System.{to_invoke, Unwind, break, continue, return, exit, Control, at_list, at_and_or, at_pipeline, at_command, at_words, at_status, at_unwind, Frame, f_list, f_and_or, f_not, f_if, f_condition, f_body, f_for, f_handles, f_arguments}
+use Rattle.reader.specs.Code.{ListCode, AndOrCode, PipelineCode, CommandCode, WordsCode}
+use Rattle.meaning.specs.System.{to_invoke, at_list, at_and_or, at_pipeline, at_command, at_words, at_status, at_unwind, Frame, f_list, f_and_or, f_not, f_if, f_condition, f_body, f_for, f_handles, f_arguments}
 use Rattle.meaning.specs.Words.{expand_words}
 use Rattle.machine.specs.declared.process.Unwind.{Unwind as Unwind'}
 use Rattle.machine.specs.declared.process.Unwind.TheVariants.{Break, Continue, Return, Exit}
-use Rattle.machine.specs.declared.process.Control.{Control as Control'}
-use Rattle.machine.specs.declared.process.Control.TheVariants.{AtList, AtAndOr, AtPipeline, AtCommand, AtWords, AtInvoke, AtPrint, AtBuiltin, AtStatus, AtUnwind}
+use Rattle.machine.specs.declared.process.Control.TheVariants.{AtUnwind}
 use Rattle.machine.specs.declared.process.Process.{Process as Process'}
-use Rattle.machine.specs.declared.control.Next.{Next}
-use Rattle.machine.specs.declared.control.Resumed.{Resumed}
 use Rattle.machine.specs.Encoding.{at}
-use Rattle.machine.specs.Decide.{plainly, list_next, and_or_next, pipeline_next, words_start, unless, command_next, going, removed, and_or_status, if_status, loop_status, status_next, loop_unwind, unwind_next}
-use Rattle.machine.specs.Represent.{Rest, process, abstract, unwind_is, ControlRep, r_list, r_and_or, r_pipeline, r_command, r_words, r_status, r_unwind, FrameRep}
-use Rattle.machine.specs.Promises.{StepsTo, Beyond, no_background, no_pipe, no_command, Grows, Leads, Backs}
+use Rattle.machine.specs.Decide.{plainly, list_next, and_or_next, pipeline_next, words_start, command_next, removed, status_next, unwind_next}
+use Rattle.machine.specs.Represent.{Rest, abstract, unwind_is, r_list, r_and_or, r_pipeline, r_command, r_words, r_status, r_unwind, FrameRep}
+use Rattle.machine.specs.Promises.{StepsTo, no_background, no_pipe, no_command, Leads, Backs}
 
 -- an address is not 0
 positive : (a : ℕ) → 0 < a → eqb a 0 ≡ false

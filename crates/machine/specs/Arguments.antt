@@ -1,5 +1,5 @@
 -- What a command reads off its arguments, encoded with a mark before each.
-use Rattle.std.specs.Prelude.{ℕ, ◌%◌, List, [], ◌∷◌, ◌++◌, take, Some, None, Option as Maybe}
+use Rattle.std.specs.Prelude.{ℕ, ◌%◌, List, [], ◌∷◌, take, Some, None, Option as Maybe}
 use Rattle.std.proofs.Math.Option.{Option, some, none}
 use Rattle.meaning.specs.Words.{number}
 use Rattle.machine.specs.Encoding.{shown, word_length}

@@ -1,5 +1,5 @@
 -- What a process does next, as functions of the code and a few numbers. None: a form that the machine does not have.
-use Rattle.std.specs.Prelude.{ℕ, ◌+◌, true, false, List, Some, None, Option as Maybe, ◌==◌, nat_le}
+use Rattle.std.specs.Prelude.{ℕ, ◌+◌, false, List, Some, None, Option as Maybe, ◌==◌, nat_le}
 use Rattle.syntax.specs.Base.{pick}
 use Rattle.machine.specs.declared.process.Control.{Control as Control'}
 use Rattle.machine.specs.declared.process.Control.TheVariants.{AtList, AtAndOr, AtPipeline, AtCommand, AtWords, AtInvoke, AtPrint, AtBuiltin, AtStatus, AtUnwind}

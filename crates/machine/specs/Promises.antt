@@ -1,15 +1,14 @@
 -- What the machine's functions promise.
-use Rattle.std.specs.Prelude.{◌≡◌, ℕ, zero, suc, ◌+◌, ◌-◌, ◌*◌, ◌<◌, ◌≤◌, Bool, true, false, ◌&&◌, ◌||◌, ◌⊎◌, List, [], ◌∷◌, ◌++◌, length, take, set, Some, None, Option as Maybe, ◌==◌, ◌≢◌, nat_lt, slice_index, slice_index_or, slice_set}
+use Rattle.std.specs.Prelude.{◌≡◌, ℕ, zero, suc, ◌+◌, ◌-◌, ◌*◌, ◌<◌, ◌≤◌, Bool, true, false, ◌||◌, ◌⊎◌, List, [], ◌∷◌, ◌++◌, length, take, Some, None, Option as Maybe, ◌==◌, ◌≢◌, nat_lt, slice_index, slice_index_or, slice_set}
 use Rattle.std.proofs.Math.Option.{Option, some, none}
 use Rattle.segments.specs.Layout.{need}
 use Rattle.store.specs.Sums.{extent}
 use Rattle.syntax.specs.Base.{pick, nth, Name}
-use Rattle.syntax.specs.Tree.{literal, parameter, substitution, Word, no_parts, and_part, Words, no_words, Assignments, no_assignments, assign, Redirects, no_redirects, redirect, Command, simple, group, subshell, if, while, for, case, function, Pipeline, piped, AndOr, CommandList, next}
+use Rattle.syntax.specs.Tree.{parameter, substitution, Word, no_parts, and_part, Words, no_words, Assignments, no_assignments, assign, Redirects, no_redirects, redirect, Command, simple, group, subshell, if, while, for, case, function, Pipeline, piped, AndOr, CommandList, next}
 use Rattle.meaning.specs.System.{QuotedByte, Purpose, Control, at_list, at_pipeline, at_command, at_words, at_redirects, then_invoke, Frame, Process, System, host_paper, with_paper}
 use Rattle.meaning.specs.Words.{close_word}
-use Rattle.meaning.specs.Step.{StepResult, continues, exits, step}
+use Rattle.meaning.specs.Step.{continues, exits, step}
 use Rattle.meaning.specs.Space.{control_size, frames_size}
-use Rattle.machine.specs.declared.process.Control.{Control as Control'}
 use Rattle.machine.specs.declared.process.Process.{Process as Process'}
 use Rattle.machine.specs.declared.control.Frame.{Frame as Frame'}
 use Rattle.machine.specs.declared.control.Next.{Next}
@@ -19,7 +18,7 @@ use Rattle.machine.specs.declared.step.Step.TheVariants.{Continues, Prints, Exit
 use Rattle.machine.specs.Encoding.{any_pattern}
 use Rattle.machine.specs.declared.names.BuiltinName.{BuiltinName}
 use Rattle.machine.specs.Commands.{name_at, lacks}
-use Rattle.machine.specs.Represent.{Rest, process, abstract, ControlRep, FrameRep, FramesRep, Kept, Rep}
+use Rattle.machine.specs.Represent.{Rest, process, abstract, ControlRep, FrameRep, Kept, Rep}
 
 -- the words of a frame, none for the tag 0
 abbrev pub framed : ℕ → ℕ → ℕ → List ℕ

@@ -1,6 +1,5 @@
 -- What seq reads off its arguments.
-use Rattle.std.specs.Prelude.{ℕ, List, [], ◌∷◌, Some, None, Option as Maybe}
-use Rattle.std.proofs.Math.Option.{Option, some, none}
+use Rattle.std.specs.Prelude.{List, [], ◌∷◌, Some, None, Option as Maybe}
 use Rattle.syntax.specs.Base.{opt}
 use Rattle.meaning.specs.System.{QuotedByte}
 use Rattle.meaning.specs.Words.{number, bytes_of}

@@ -1,7 +1,7 @@
 -- How a process stands in a struct and in the lists of a store.
-use Rattle.std.specs.Prelude.{◌≡◌, ℕ, zero, suc, ◌+◌, ◌<◌, ◌≤◌, Bool, true, false, ◌⊎◌, List, [], ◌∷◌, ◌++◌, length, get_or, slice_index_or}
-use Rattle.std.proofs.Math.Option.{Option, some, none}
-use Rattle.syntax.specs.Tree.{Word, Words, no_redirects, Command, Pipeline, AndOr, CommandList, ElsePart}
+use Rattle.std.specs.Prelude.{◌≡◌, ℕ, ◌+◌, ◌<◌, ◌≤◌, Bool, true, false, ◌⊎◌, List, [], ◌∷◌, ◌++◌, length, get_or, slice_index_or}
+use Rattle.std.proofs.Math.Option.{Option}
+use Rattle.syntax.specs.Tree.{Word, Words, no_redirects, Command, Pipeline, AndOr, CommandList}
 use Rattle.reader.specs.Layout.{flag}
 use Rattle.reader.specs.Code.{ListCode, AndOrCode, PipelineCode, CommandCode, ElseCode, WordsCode, WordCode}
 use Rattle.meaning.specs.System.{QuotedByte, Variable, Function, Builtin, b_done, b_print, b_seq, b_yes, then_invoke, to_invoke, Unwind, break, continue, return, exit, Control, at_list, at_and_or, at_pipeline, at_command, at_words, at_redirects, at_builtin, at_status, at_unwind, Frame, f_list, f_and_or, f_not, f_if, f_condition, f_body, f_for, f_handles, f_arguments, Process}

@@ -1,8 +1,8 @@
 -- Steps of one process in a row, as moves of a system.
-use Rattle.std.specs.Prelude.{◌≡◌, ℕ, ◌+◌, ◌<◌, ◌≤◌, Bool, ◌⊎◌, List, [], ◌∷◌, ◌++◌, length, take, drop, replicate, ◌≢◌}
-use Rattle.std.proofs.Math.Option.{Option, some, none}
+use Rattle.std.specs.Prelude.{◌≡◌, ℕ, ◌+◌, ◌<◌, ◌≤◌, Bool, ◌⊎◌, List, length, take, drop, replicate, ◌≢◌}
+use Rattle.std.proofs.Math.Option.{some}
 use Rattle.syntax.specs.Base.{nth}
-use Rattle.meaning.specs.System.{Control, Frame, Process, System, Exited, host_paper, with_processes, with_paper, find_process, replace, without}
+use Rattle.meaning.specs.System.{Control, Frame, Process, System, host_paper, with_processes, with_paper, find_process, replace}
 use Rattle.meaning.specs.Step.{moves, exits, settle}
 use Rattle.machine.specs.declared.process.Process.{Process as Process'}
 use Rattle.machine.specs.declared.stretch.Ending.{Ending}

@@ -1,4 +1,6 @@
 // The steps of one process, over code words and lists in a store.
+#![tactic(auto)]
+
 mod arguments;
 mod builtins;
 mod control;

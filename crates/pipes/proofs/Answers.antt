@@ -1,18 +1,14 @@
 -- What each answer of the call says.
-use mathlib.Core.Path.{◌≡◌, refl, sym, subst}
-use mathlib.Core.Logic.{◌↔◌}
-use mathlib.Core.Bool.{Bool, true, false}
+use mathlib.Core.Path.{refl, sym, subst}
 use mathlib.Core.List.{List}
-use Prim.Native.Nat.{ℕ, ◌+◌, ◌*◌, ◌<◌, ◌≤◌}
-use native.Mathlib.Omega.{arith}
+use Prim.Native.Nat.{ℕ, ◌+◌, ◌*◌, ◌<◌}
 use lib.ListN.{length}
-use lib.Dec.{T, leb, leb→le}
 use Rattle.pipes.specs.declared.Ran.{Ran}
 use Rattle.pipes.specs.declared.Ran.TheVariants.{Ended, Still, Spent, NoRoom, OutFull, NotYet, NoText, Few}
 use Rattle.pipes.specs.Says.{RanPost}
 use Rattle.syntax.specs.Tree.{CommandList}
 use Rattle.grammar.specs.Grammar.{Parses}
-use Rattle.reader.specs.Answer.{IsProgram, NoProgram}
+use Rattle.reader.specs.Answer.{IsProgram}
 use Rattle.pipes.proofs.Parts.{parts}
 
 abbrev other_than_few : Ran → Type 0

@@ -1,6 +1,6 @@
 -- What `run` promises: text t, the host's input i, how many moves are allowed, w words lent, the bytes lent for the paper
 -- before (o) and after (o').
-use Rattle.std.specs.Prelude.{◌≡◌, ◌↔◌, true, false, List, [], ◌∷◌, ◌++◌, ℕ, ◌+◌, ◌*◌, ◌<◌, ◌≤◌, length, take, drop}
+use Rattle.std.specs.Prelude.{◌≡◌, ◌↔◌, false, List, [], ◌∷◌, ◌++◌, ℕ, ◌+◌, ◌*◌, ◌<◌, ◌≤◌, length, take, drop}
 use Rattle.std.proofs.Math.Option.{some}
 use Rattle.pipes.specs.declared.Ran.{Ran}
 use Rattle.pipes.specs.declared.Ran.TheVariants.{Ended, Still, Spent, NoRoom, OutFull, NotYet, NoText, Few}

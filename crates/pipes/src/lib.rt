@@ -1,4 +1,6 @@
 //! The public call: a text of commands is read, and run within lent memory.
+#![tactic(auto)]
+
 ghost use Rattle.std.specs.Prelude.{ℕ, ◌+◌, ◌*◌, ◌<◌, length, T};
 ghost use Rattle.pipes.specs.Says.{RanPost};
 

@@ -1,4 +1,4 @@
-use Rattle.std.proofs.Common.{◌≡◌, sym, refl, ap, ◌∙◌, arith, rules}
+use Rattle.std.proofs.Common.{refl, ap, ◌∙◌, arith}
 use Rattle.front.specs.Places.{place_after}
 use Rattle.front.proofs.Steps.{place_more, after_line, after_column, take_end}
 use Rattle.front.proofs.place_at.Goals as goal

@@ -1,4 +1,3 @@
-use borrow.Author.Rules.{rules}
 use mathlib.Core.Path.{subst, sym}
 use lib.Dec.{T}
 use native.Mathlib.Omega.{arith}

@@ -1,4 +1,4 @@
-use Rattle.std.proofs.Common.{ℕ, ◌≤◌, length}
+use Rattle.std.proofs.Common.{◌≤◌, length}
 use Rattle.front.proofs.files.fill.Given as goal
 
 abbrev pub invariant-loop : goal.invariant-loop

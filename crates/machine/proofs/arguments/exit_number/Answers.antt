@@ -1,5 +1,4 @@
-use Rattle.std.proofs.Common.{◌≡◌, ℕ, ◌+◌, ◌-◌, ◌*◌, Bool, true, false, cond, List, [], ◌∷◌, ◌++◌, length, get_or, take, drop, set, sym, refl, ap, ◌∙◌, subst, arith, rules}
-use Rattle.store.specs.Held.{model, bounds}
+use Rattle.std.proofs.Common.{◌≡◌, ◌+◌, ◌-◌, take, drop, refl, ap, ◌∙◌, arith}
 use Rattle.machine.specs.Encoding.{word_length}
 use Rattle.machine.specs.Arguments.{number_of}
 use Rattle.machine.proofs.Numbers.{exit_is, exit_empty}

@@ -1,5 +1,4 @@
-use Rattle.std.proofs.Common.{◌≡◌, ℕ, ◌+◌, ◌-◌, ◌*◌, Bool, true, false, cond, List, [], ◌∷◌, ◌++◌, length, get_or, take, drop, set, sym, refl, ap, ◌∙◌, subst, arith, rules}
-use Rattle.store.specs.Held.{model, bounds}
+use Rattle.std.proofs.Common.{◌+◌, ◌*◌, sym, refl, ap, ◌∙◌, arith}
 use Rattle.machine.specs.Arguments.{maybe}
 use Rattle.machine.proofs.Numbers.{number_short, number_long, number_right, digit_low, digit_high, digit_on, digit_end, pow_next, pow_small}
 use Rattle.machine.proofs.arguments.number.Goals as goal

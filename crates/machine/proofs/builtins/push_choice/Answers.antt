@@ -1,5 +1,5 @@
-use Rattle.std.proofs.Common.{◌≡◌, ℕ, ◌+◌, ◌-◌, ◌*◌, Bool, true, false, cond, List, [], ◌∷◌, ◌++◌, length, get_or, take, drop, set, sym, refl, ap, ◌∙◌, subst, arith, rules}
-use Rattle.store.specs.Held.{model, bounds}
+use Rattle.std.proofs.Common.{[], get_or, arith, rules}
+use Rattle.store.specs.Held.{model}
 use Rattle.machine.proofs.Numbers.{choice_some, choice_none}
 use Rattle.machine.proofs.builtins.push_choice.Goals as goal
 

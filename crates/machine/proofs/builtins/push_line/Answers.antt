@@ -1,7 +1,6 @@
-use Rattle.std.proofs.Common.{◌≡◌, ℕ, ◌+◌, ◌-◌, ◌*◌, Bool, true, false, cond, List, [], ◌∷◌, ◌++◌, length, get_or, take, drop, set, sym, refl, ap, ◌∙◌, subst, arith, rules}
-use Rattle.store.specs.Held.{model, bounds}
+use Rattle.std.proofs.Common.{[], get_or, rules}
+use Rattle.store.specs.Held.{model}
 use Rattle.machine.proofs.Pushes.{push_fails}
-use Rattle.machine.specs.Encoding.{shown, rev}
 use Rattle.machine.proofs.Texts.{line_on, line_length}
 use Rattle.machine.proofs.builtins.push_line.Goals as goal
 

@@ -1,7 +1,6 @@
-use Rattle.std.proofs.Common.{◌≡◌, ℕ, ◌+◌, ◌-◌, ◌*◌, Bool, true, false, cond, List, [], ◌∷◌, ◌++◌, length, get_or, take, drop, set, sym, refl, ap, ◌∙◌, subst, arith, rules}
-use Rattle.store.specs.Held.{model, bounds}
+use Rattle.std.proofs.Common.{◌≡◌, ◌-◌, [], get_or, refl, ◌∙◌, arith, rules}
+use Rattle.store.specs.Held.{model}
 use Rattle.machine.proofs.Pushes.{push_nil, push_fails}
-use Rattle.machine.specs.Encoding.{shown, rev}
 use Rattle.machine.proofs.Texts.{span_none, span_length, back_on}
 use Rattle.machine.proofs.builtins.push_reversed.Goals as goal
 

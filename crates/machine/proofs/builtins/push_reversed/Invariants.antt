@@ -1,4 +1,4 @@
-use Rattle.std.proofs.Common.{◌≡◌, ◌+◌, ◌≤◌, true, [], ◌∷◌, ◌++◌, length, get_or, take, drop}
+use Rattle.std.proofs.Common.{◌≡◌, ◌≤◌, true, [], get_or, take, drop}
 use Rattle.store.specs.Held.{model, bounds, Held}
 use Rattle.machine.specs.Encoding.{shown, rev}
 use Rattle.machine.specs.Promises.{Pushed}

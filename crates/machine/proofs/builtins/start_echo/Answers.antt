@@ -1,5 +1,4 @@
-use Rattle.std.proofs.Common.{◌≡◌, ℕ, ◌+◌, ◌-◌, ◌*◌, Bool, true, false, cond, List, [], ◌∷◌, ◌++◌, length, get_or, take, drop, set, sym, refl, ap, ◌∙◌, subst, arith, rules}
-use Rattle.store.specs.Held.{model, bounds}
+use Rattle.std.proofs.Common.{arith, rules}
 use Rattle.machine.specs.declared.names.BuiltinName.TheVariants.{Echo}
 use Rattle.machine.proofs.Begin.{echo_on, line_tight}
 use Rattle.machine.proofs.builtins.start_echo.Goals as goal

@@ -1,5 +1,4 @@
-use Rattle.std.proofs.Common.{◌≡◌, ℕ, ◌+◌, ◌-◌, ◌*◌, Bool, true, false, cond, List, [], ◌∷◌, ◌++◌, length, get_or, take, drop, set, sym, refl, ap, ◌∙◌, subst, arith, rules}
-use Rattle.store.specs.Held.{model, bounds}
+use Rattle.std.proofs.Common.{ap, ◌∙◌, rules}
 use Rattle.machine.proofs.Texts.{rest_is}
 use Rattle.machine.specs.Arguments.{exit_number}
 use Rattle.machine.proofs.Begin.{exit_on, exit_bad}

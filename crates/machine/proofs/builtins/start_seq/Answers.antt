@@ -1,5 +1,4 @@
-use Rattle.std.proofs.Common.{◌≡◌, ℕ, ◌+◌, ◌-◌, ◌*◌, Bool, true, false, cond, List, [], ◌∷◌, ◌++◌, length, get_or, take, drop, set, sym, refl, ap, ◌∙◌, subst, arith, rules}
-use Rattle.store.specs.Held.{model, bounds}
+use Rattle.std.proofs.Common.{rules}
 use Rattle.machine.proofs.Texts.{rest_is}
 use Rattle.machine.proofs.Begin.{seq_begins, seq_bad}
 use Rattle.machine.proofs.builtins.start_seq.Goals as goal

@@ -1,5 +1,5 @@
-use Rattle.std.proofs.Common.{◌≡◌, ℕ, ◌+◌, ◌-◌, ◌*◌, Bool, true, false, cond, List, [], ◌∷◌, ◌++◌, length, get_or, take, drop, set, sym, refl, ap, ◌∙◌, subst, arith, rules}
-use Rattle.store.specs.Held.{model, bounds}
+use Rattle.std.proofs.Common.{◌+◌, [], length, get_or, sym, ap, ◌∙◌, arith, rules}
+use Rattle.store.specs.Held.{model}
 use Rattle.std.proofs.lemmas.List.{length-drop}
 use Rattle.machine.specs.Encoding.{word_length}
 use Rattle.machine.specs.Commands.{name_of}

@@ -1,5 +1,4 @@
-use Rattle.std.proofs.Common.{◌≡◌, ℕ, ◌+◌, ◌-◌, ◌*◌, Bool, true, false, cond, List, [], ◌∷◌, ◌++◌, length, get_or, take, drop, set, sym, refl, ap, ◌∙◌, subst, arith, rules}
-use Rattle.store.specs.Held.{model, bounds}
+use Rattle.std.proofs.Common.{length, get_or, sym, refl, ap, ◌∙◌, arith}
 use Rattle.machine.proofs.Commands.{named_past, named_mark, named_not, named_on, named_ends, named_last}
 use Rattle.machine.proofs.names.is_named.Goals as goal
 

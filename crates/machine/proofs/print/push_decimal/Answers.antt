@@ -1,5 +1,4 @@
-use Rattle.std.proofs.Common.{◌≡◌, ℕ, ◌+◌, ◌-◌, ◌*◌, Bool, true, false, cond, List, [], ◌∷◌, ◌++◌, length, get_or, take, drop, set, sym, refl, ap, ◌∙◌, subst, arith, rules}
-use Rattle.store.specs.Held.{model, bounds}
+use Rattle.std.proofs.Common.{refl, ◌∙◌, arith, rules}
 use Rattle.machine.proofs.Pushes.{push_nil}
 use Rattle.machine.proofs.Decimals.{digits_none, digits_next, digits_fails, digits_last}
 use Rattle.machine.proofs.print.push_decimal.Goals as goal

@@ -1,5 +1,4 @@
-use Rattle.std.proofs.Common.{◌≡◌, ℕ, ◌+◌, ◌-◌, ◌*◌, Bool, true, false, cond, List, [], ◌∷◌, ◌++◌, length, get_or, take, drop, set, sym, refl, ap, ◌∙◌, subst, arith, rules}
-use Rattle.store.specs.Held.{model, bounds}
+use Rattle.std.proofs.Common.{rules}
 use Rattle.machine.proofs.Pushes.{push_fails}
 use Rattle.machine.proofs.Decimals.{decimal_line, line_longer}
 use Rattle.machine.proofs.print.push_number.Goals as goal

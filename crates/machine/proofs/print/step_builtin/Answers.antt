@@ -1,5 +1,4 @@
-use Rattle.std.proofs.Common.{◌≡◌, ℕ, ◌+◌, ◌-◌, ◌*◌, Bool, true, false, cond, List, [], ◌∷◌, ◌++◌, length, get_or, take, drop, set, sym, refl, ap, ◌∙◌, subst, arith, rules}
-use Rattle.store.specs.Held.{model, bounds}
+use Rattle.std.proofs.Common.{ap, ◌∙◌, arith, rules}
 use Rattle.machine.specs.declared.process.Control.TheVariants.{AtBuiltin}
 use Rattle.machine.proofs.Printing.{done_on, seq_done, seq_on, seq_tight, yes_on, yes_tight}
 use Rattle.machine.proofs.print.step_builtin.Goals as goal

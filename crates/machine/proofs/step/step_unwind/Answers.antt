@@ -1,5 +1,5 @@
-use Rattle.std.proofs.Common.{◌≡◌, sym, refl, ap, ◌∙◌, subst, arith, rules}
-use Rattle.machine.proofs.Steps.{tree_on, frame_tight, tree_beyond, top_long, status_on, unwind_on, status_ends, unwind_ends}
+use Rattle.std.proofs.Common.{refl, rules}
+use Rattle.machine.proofs.Steps.{unwind_on, unwind_ends}
 use Rattle.machine.proofs.step.step_unwind.Goals as goal
 
 pub returns-in_default : goal.returns-in_default

@@ -1,5 +1,4 @@
-use Rattle.std.proofs.Common.{◌≡◌, ℕ, ◌+◌, ◌-◌, ◌*◌, Bool, true, false, cond, List, [], ◌∷◌, ◌++◌, length, get_or, take, drop, set, sym, refl, ap, ◌∙◌, subst, arith, rules}
-use Rattle.store.specs.Held.{model, bounds}
+use Rattle.std.proofs.Common.{rules}
 use Rattle.machine.proofs.Moves.{lifted}
 use Rattle.machine.proofs.step.take_step.Goals as goal
 

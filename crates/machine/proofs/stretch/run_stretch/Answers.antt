@@ -1,5 +1,4 @@
-use Rattle.std.proofs.Common.{◌≡◌, ℕ, ◌+◌, ◌-◌, ◌*◌, Bool, true, false, cond, List, [], ◌∷◌, ◌++◌, length, get_or, take, drop, set, sym, refl, ap, ◌∙◌, subst, arith, rules}
-use Rattle.store.specs.Held.{model, bounds}
+use Rattle.std.proofs.Common.{refl, ◌∙◌, arith}
 use Rattle.machine.proofs.Moves.{reach_none, reach_on, reach_print, reach_exit, reach_tight, reach_full, reach_beyond}
 use Rattle.machine.proofs.stretch.run_stretch.Goals as goal
 use Rattle.machine.proofs.stretch.run_stretch.Goals.{in-Continues, in-Prints}

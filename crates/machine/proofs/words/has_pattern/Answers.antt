@@ -1,5 +1,4 @@
-use Rattle.std.proofs.Common.{◌≡◌, ℕ, ◌+◌, ◌-◌, ◌*◌, Bool, true, false, cond, List, [], ◌∷◌, ◌++◌, length, get_or, take, drop, set, sym, refl, ap, ◌∙◌, subst, arith, rules}
-use Rattle.store.specs.Held.{model, bounds}
+use Rattle.std.proofs.Common.{refl, arith}
 use Rattle.machine.proofs.words.has_pattern.Goals as goal
 use Rattle.machine.proofs.Texts.{pattern_here, pattern_on, pattern_none}
 

@@ -1,5 +1,4 @@
-use Rattle.std.proofs.Common.{◌≡◌, ℕ, ◌+◌, ◌-◌, ◌*◌, Bool, true, false, cond, List, [], ◌∷◌, ◌++◌, length, get_or, take, drop, set, sym, refl, ap, ◌∙◌, subst, arith, rules}
-use Rattle.store.specs.Held.{model, bounds}
+use Rattle.std.proofs.Common.{◌+◌, refl, ◌∙◌, arith, rules}
 use Rattle.machine.proofs.words.push_bytes.Goals as goal
 use Rattle.std.proofs.lemmas.List.{take_all}
 use Rattle.machine.proofs.Pushes.{push_nil, push_fails}

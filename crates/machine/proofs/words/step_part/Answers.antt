@@ -1,8 +1,6 @@
-use Rattle.std.proofs.Common.{◌≡◌, ℕ, ◌+◌, ◌-◌, ◌*◌, Bool, true, false, cond, List, [], ◌∷◌, ◌++◌, length, get_or, take, drop, set, sym, refl, ap, ◌∙◌, subst, arith, rules}
-use Rattle.store.specs.Held.{model, bounds}
-use Rattle.machine.proofs.Steps.{frame_tight}
+use Rattle.std.proofs.Common.{arith, rules}
 use Rattle.machine.proofs.Texts.{all_bytes}
-use Rattle.machine.proofs.Expand.{part_on, part_tight, part_beyond, next_on, pattern_beyond, expanded_on, part_said}
+use Rattle.machine.proofs.Expand.{part_on, part_tight, part_beyond, part_said}
 use Rattle.machine.proofs.words.step_part.Goals as goal
 
 pub returns-then-quoted-gt1 : goal.returns-then-quoted-gt1

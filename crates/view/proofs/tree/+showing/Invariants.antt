@@ -1,4 +1,4 @@
-use Rattle.std.proofs.Common.{ℕ, ◌+◌, ◌*◌, ◌<◌}
+use Rattle.std.proofs.Common.{◌+◌, ◌*◌}
 use Rattle.view.proofs.tree.+showing.Given as goal
 
 abbrev pub decreases-show_list : goal.decreases-show_list
