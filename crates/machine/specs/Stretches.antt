@@ -49,3 +49,7 @@ EndSays text code b m m' o o' place p most number r s p' place' made Unsupported
 -- in whatever system the process stands
 pub record Stretched (text code : List ℕ) (b : ℕ × List Bool) (m m' : List (List ℕ)) (o o' : List ℕ) (place : ℕ) (p : Process') (most : ℕ) (a : Stretch) : Type 0 where
   pub says : (number : ℕ → ℕ) (r : Rest) (c : Control) (k : List Frame) (s : System) → Rep text code number b.1 m p r c k → Stands number o place p r c k s → EndSays text code b m m' o o' place p most number r s a.process a.place a.moves a.ending
+
+-- in whatever system the process stands, no fewer bytes are printed than before
+pub record Onward (text code : List ℕ) (live : List Bool) (m : List (List ℕ)) (o : List ℕ) (place : ℕ) (p : Process') (place' : ℕ) : Type 0 where
+  pub says : (number : ℕ → ℕ) (r : Rest) (c : Control) (k : List Frame) (s : System) → Rep text code number live m p r c k → Stands number o place p r c k s → place ≤ place'

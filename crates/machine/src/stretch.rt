@@ -1,7 +1,7 @@
 // Several steps of one process in a row.
 ghost use Rattle.std.specs.Prelude.{◌≡◌, ℕ, ◌+◌, ◌-◌, ◌*◌, ◌<◌, ◌≤◌, List, [], ◌∷◌, ◌++◌, length};
 ghost use Rattle.store.specs.Held.{model, bounds, Held};
-ghost use Rattle.machine.specs.Stretches.{Stretched, ending_at};
+ghost use Rattle.machine.specs.Stretches.{Onward, Stretched, ending_at};
 
 use crate::process::Process;
 use crate::step::{Step, take_step};
@@ -52,6 +52,7 @@ pub fn run_stretch(
     ensures held { Held st.new }
     ensures same { bounds st.new ≡ bounds st.old }
     ensures says { Stretched text.now code.now (bounds st.old) (model st.old) (model st.new) paper.old paper.new place process most result }
+    ensures onward { Onward text.now code.now (bounds st.old).1 (model st.old) paper.old place process result.place }
 {
     let mut process = process;
     let mut place = place;

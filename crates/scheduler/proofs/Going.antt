@@ -21,7 +21,7 @@ use Rattle.machine.specs.Represent.{Rest, abstract, Has, Lists, Kept, Rep, r_lis
 use Rattle.machine.specs.Promises.{Scarce}
 use Rattle.machine.specs.Promises.{size, StepsTo, Tight, tight_now, tight_then}
 use Rattle.machine.specs.Room.{own}
-use Rattle.machine.specs.Stretches.{with_process, Reached, Stands, EndSays, Stretched}
+use Rattle.machine.specs.Stretches.{with_process, Reached, Stands, EndSays, Stretched, Onward}
 use Rattle.machine.proofs.Rooms.{own_room, refusal_bound}
 use Rattle.scheduler.specs.declared.slices.Outcome.{Outcome}
 use Rattle.scheduler.specs.declared.slices.Outcome.TheVariants.{Ended, Still, Spent, NoRoom, PaperFull, Unsupported}
@@ -61,19 +61,22 @@ behind o₀ o o' place place' h e f =
     f ∙ q
 
 -- where a stretch has come to
-pub reach_going : {text code : List ℕ} {live : List Bool} {m m' : List (List ℕ)} {o₀ o o' : List ℕ} {place place' made moved : ℕ} {p p' : Process'} {l : CommandList} {i : List ℕ} (g : Going text code live m o₀ o place made p l i) → Reached text code as_it_is live m m' o o' place place' p p' first_rest (running i (abstract as_it_is p first_rest g.c g.k) (take place o)) moved → Going text code live m' o₀ o' place' (made + moved) p' l i
-reach_going {o₀ = o₀} {o = o} {o' = o'} {place = place} {place' = place'} {made = made} {moved = moved} {l = l} {i = i} g z = record { c = z.c; k = z.k; came = more (initial l i []) _ _ made moved g.came z.came; rep = z.rep; base = z.base ∙ g.base; queue = z.kept.others 0 (inl (omega (arith, g.base))) ∙ g.queue; rest = λ j h. z.kept.others j (inr (omega (arith, g.base))) ∙ g.rest j h; long = z.long ∙ g.long; within = z.within; behind = behind o₀ o o' place place' z.printed g.behind z.behind }
+pub reach_going : {text code : List ℕ} {live : List Bool} {m m' : List (List ℕ)} {o₀ o o' : List ℕ} {place place' made moved : ℕ} {p p' : Process'} {l : CommandList} {i : List ℕ} (g : Going text code live m o₀ o place made p l i) → place ≤ place' → Reached text code as_it_is live m m' o o' place' p p' first_rest (running i (abstract as_it_is p first_rest g.c g.k) (take place o)) moved → Going text code live m' o₀ o' place' (made + moved) p' l i
+reach_going {o₀ = o₀} {o = o} {o' = o'} {place = place} {place' = place'} {made = made} {moved = moved} {l = l} {i = i} g f z = record { c = z.c; k = z.k; came = more (initial l i []) _ _ made moved g.came z.came; rep = z.rep; base = z.base ∙ g.base; queue = z.kept.others 0 (inl (omega (arith, g.base))) ∙ g.queue; rest = λ j h. z.kept.others j (inr (omega (arith, g.base))) ∙ g.rest j h; long = z.long ∙ g.long; within = z.within; behind = behind o₀ o o' place place' f g.behind z.behind }
 
 -- what a stretch from here says, ended in this way
 abbrev Said : {text code : List ℕ} {live : List Bool} {m : List (List ℕ)} {o₀ o : List ℕ} {place made : ℕ} {p : Process'} {l : CommandList} {i : List ℕ} → ℕ → List (List ℕ) → List ℕ → ℕ → Going text code live m o₀ o place made p l i → Stretch → Ending → Type 0
 Said {text} {code} {live} {m} {o₀} {o} {place} {made} {p} {l} {i} half m' o' most g a e = EndSays text code (half, live) m m' o o' place p most as_it_is first_rest (running i (abstract as_it_is p first_rest g.c g.k) (take place o)) a.process a.place a.moves e
 
+onward : {text code : List ℕ} {live : List Bool} {m : List (List ℕ)} {o₀ o : List ℕ} {place place' made : ℕ} {p : Process'} {l : CommandList} {i : List ℕ} (g : Going text code live m o₀ o place made p l i) → Onward text code live m o place p place' → place ≤ place'
+onward g w = w.says as_it_is first_rest g.c g.k _ g.rep (stands g)
+
 said : {text code : List ℕ} {half : ℕ} {live : List Bool} {m m' : List (List ℕ)} {o₀ o o' : List ℕ} {place made most : ℕ} {p : Process'} {l : CommandList} {i : List ℕ} {a : Stretch} (e : Ending) → a.ending ≡ e → (g : Going text code live m o₀ o place made p l i) → Stretched text code (half, live) m m' o o' place p most a → Said half m' o' most g a e
 said {half = half} {m' = m'} {o' = o'} {most = most} {a = a} e q g h = subst (λ e. Said half m' o' most g a e) q (h.says as_it_is first_rest g.c g.k _ g.rep (stands g))
 
 -- a slice whose moves are all made
-slice_on : {text code : List ℕ} {live : List Bool} {m m' : List (List ℕ)} {o₀ o o' : List ℕ} {place made most : ℕ} {p : Process'} {l : CommandList} {i : List ℕ} (half : ℕ) (a : Stretch) (g : Going text code live m o₀ o place made p l i) → Said half m' o' most g a Spent' → Going text code live m' o₀ o' a.place (made + most) a.process l i
-slice_on {text} {code} {live} {m} {m'} {o₀} {o} {o'} {place} {made} {most} {p} {l} {i} half a g z = subst (λ n. Going text code live m' o₀ o' a.place (made + n) a.process l i) z.1 (reach_going g z.0)
+slice_on : {text code : List ℕ} {live : List Bool} {m m' : List (List ℕ)} {o₀ o o' : List ℕ} {place made most : ℕ} {p : Process'} {l : CommandList} {i : List ℕ} (half : ℕ) (a : Stretch) (g : Going text code live m o₀ o place made p l i) → place ≤ a.place → Said half m' o' most g a Spent' → Going text code live m' o₀ o' a.place (made + most) a.process l i
+slice_on {text} {code} {live} {m} {m'} {o₀} {o} {o'} {place} {made} {most} {p} {l} {i} half a g f z = subst (λ n. Going text code live m' o₀ o' a.place (made + n) a.process l i) z.1 (reach_going g f z.0)
 
 -- the queue goes round
 queue_on : {text code : List ℕ} {live : List Bool} {m m' : List (List ℕ)} {o₀ o : List ℕ} {place made : ℕ} {p : Process'} {l : CommandList} {i : List ℕ} → m' ≡ set m 0 (rotated (get_or m 0 [])) → Going text code live m o₀ o place made p l i → Going text code live m' o₀ o place made p l i
@@ -86,9 +89,9 @@ spent_says : {text code : List ℕ} {live : List Bool} {m : List (List ℕ)} {o�
 spent_says {o₀ = o₀} {o = o} {place = place} {made = made} words g = (replicate made 0, _, g.came, length-replicate made 0, on_paper o₀ o place g.long g.within g.behind)
 
 -- the process has exited
-ended_says : {text code : List ℕ} {live : List Bool} {m : List (List ℕ)} {o₀ o o' : List ℕ} {place made : ℕ} {p : Process'} {l : CommandList} {i : List ℕ} (half : ℕ) (m' : List (List ℕ)) (a : Stretch) (most slice words n : ℕ) (g : Going text code live m o₀ o place made p l i) → Said half m' o' slice g a (Exited' n) → OutcomeSays l i most words o₀ o' (Ended a.place n)
-ended_says {o₀ = o₀} {o = o} {o' = o'} {place = place} {made = made} {l = l} {i = i} half m' a most slice words n g z =
-    let y = reach_going g z.1 in
+ended_says : {text code : List ℕ} {live : List Bool} {m : List (List ℕ)} {o₀ o o' : List ℕ} {place made : ℕ} {p : Process'} {l : CommandList} {i : List ℕ} (half : ℕ) (m' : List (List ℕ)) (a : Stretch) (most slice words n : ℕ) (g : Going text code live m o₀ o place made p l i) → place ≤ a.place → Said half m' o' slice g a (Exited' n) → OutcomeSays l i most words o₀ o' (Ended a.place n)
+ended_says {o₀ = o₀} {o = o} {o' = o'} {place = place} {made = made} {l = l} {i = i} half m' a most slice words n g f z =
+    let y = reach_going g f z.1 in
     (replicate (made + a.moves) 0, _, more (initial l i []) _ _ made a.moves g.came z.5, refl, refl, on_paper o₀ o' a.place y.long y.within y.behind)
 
 -- the words in lists are those of the process and one in the queue
@@ -134,45 +137,45 @@ tight_says {m = m} {o₀ = o₀} {o = o} {place = place} {made = made} {p = p} {
     (cases_lt (size d h) (size g.c g.k))
 
 -- there is no room
-no_room_says : {text code : List ℕ} {m : List (List ℕ)} {o₀ o o' : List ℕ} {place made : ℕ} {p : Process'} {l : CommandList} {i : List ℕ} (m' : List (List ℕ)) (a : Stretch) (most slice words : ℕ) (g : Going text code (opened 5 (words / 2)) m o₀ o place made p l i) → Said (words / 2) m' o' slice g a NoRoom' → OutcomeSays l i most words o₀ o' (NoRoom a.place)
+no_room_says : {text code : List ℕ} {m : List (List ℕ)} {o₀ o o' : List ℕ} {place made : ℕ} {p : Process'} {l : CommandList} {i : List ℕ} (m' : List (List ℕ)) (a : Stretch) (most slice words : ℕ) (g : Going text code (opened 5 (words / 2)) m o₀ o place made p l i) → place ≤ a.place → Said (words / 2) m' o' slice g a NoRoom' → OutcomeSays l i most words o₀ o' (NoRoom a.place)
 unfolding reach_going
-no_room_says m' a most slice words g z = tight_says most words (reach_going g z.1) z.3
+no_room_says m' a most slice words g f z = tight_says most words (reach_going g f z.1) z.3
 
 -- the paper is full
-full_says : {text code : List ℕ} {live : List Bool} {m : List (List ℕ)} {o₀ o o' : List ℕ} {place made : ℕ} {p : Process'} {l : CommandList} {i : List ℕ} (half : ℕ) (m' : List (List ℕ)) (a : Stretch) (most slice words : ℕ) (g : Going text code live m o₀ o place made p l i) → Said half m' o' slice g a PaperFull' → OutcomeSays l i most words o₀ o' (PaperFull a.place)
+full_says : {text code : List ℕ} {live : List Bool} {m : List (List ℕ)} {o₀ o o' : List ℕ} {place made : ℕ} {p : Process'} {l : CommandList} {i : List ℕ} (half : ℕ) (m' : List (List ℕ)) (a : Stretch) (most slice words : ℕ) (g : Going text code live m o₀ o place made p l i) → place ≤ a.place → Said half m' o' slice g a PaperFull' → OutcomeSays l i most words o₀ o' (PaperFull a.place)
 unfolding reach_going
-full_says {o₀ = o₀} {o = o} {o' = o'} {made = made} {l = l} {i = i} half m' a most slice words g z =
-    let y = reach_going g z.0 in
+full_says {o₀ = o₀} {o = o} {o' = o'} {made = made} {l = l} {i = i} half m' a most slice words g f z =
+    let y = reach_going g f z.0 in
     let w = abstract as_it_is a.process first_rest y.c y.k in
     let s = running i w (take a.place o') in
     let t = z.2.steps_to s (ap (nth s.handles) z.2.output) in
     (replicate (made + a.moves) 0, s, _, 0, y.came, moves_then (initial l i []) _ _ (replicate (made + a.moves) 0) (0 ∷ []) y.came (one_move i (take a.place o') w z.2.w' _ t refl), omega (arith, y.long, z.2.full, length-append (take a.place o') (z.2.byte ∷ []), length-take-le a.place o' y.within), on_paper o₀ o' a.place y.long y.within y.behind)
 
 -- something that the machine does not have
-beyond_says : {text code : List ℕ} {live : List Bool} {m : List (List ℕ)} {o₀ o : List ℕ} {place made : ℕ} {p : Process'} {l : CommandList} {i : List ℕ} (half : ℕ) (m' : List (List ℕ)) (o' : List ℕ) (a : Stretch) (most slice words : ℕ) (g : Going text code live m o₀ o place made p l i) → Said half m' o' slice g a Unsupported' → OutcomeSays l i most words o₀ o' Unsupported
+beyond_says : {text code : List ℕ} {live : List Bool} {m : List (List ℕ)} {o₀ o : List ℕ} {place made : ℕ} {p : Process'} {l : CommandList} {i : List ℕ} (half : ℕ) (m' : List (List ℕ)) (o' : List ℕ) (a : Stretch) (most slice words : ℕ) (g : Going text code live m o₀ o place made p l i) → place ≤ a.place → Said half m' o' slice g a Unsupported' → OutcomeSays l i most words o₀ o' Unsupported
 unfolding reach_going
-beyond_says {made = made} half m' o' a most slice words g z =
-    let y = reach_going g z.1 in
+beyond_says {made = made} half m' o' a most slice words g f z =
+    let y = reach_going g f z.1 in
     (replicate (made + a.moves) 0, _, _, y.came, refl, z.3)
 
 -- the same for every list of commands and every input
-pub goes_on : {text code : List ℕ} {root half : ℕ} {live : List Bool} {m m' m'' : List (List ℕ)} {o₀ o o' : List ℕ} {place made most : ℕ} {p : Process'} {a : Stretch} → a.ending ≡ Spent' → m'' ≡ set m' 0 (rotated (get_or m' 0 [])) → Stretched text code (half, live) m m' o o' place p most a → Goes text code root live m o₀ o place made p → Goes text code root live m'' o₀ o' a.place (made + most) a.process
-goes_on {half = half} {a = a} e q h g = record { says = λ l i z. queue_on q (slice_on half a (g.says l i z) (said Spent' e (g.says l i z) h)) }
+pub goes_on : {text code : List ℕ} {root half : ℕ} {live : List Bool} {m m' m'' : List (List ℕ)} {o₀ o o' : List ℕ} {place made most : ℕ} {p : Process'} {a : Stretch} → a.ending ≡ Spent' → m'' ≡ set m' 0 (rotated (get_or m' 0 [])) → Stretched text code (half, live) m m' o o' place p most a → Onward text code live m o place p a.place → Goes text code root live m o₀ o place made p → Goes text code root live m'' o₀ o' a.place (made + most) a.process
+goes_on {half = half} {a = a} e q h f g = record { says = λ l i z. queue_on q (slice_on half a (g.says l i z) (onward (g.says l i z) f) (said Spent' e (g.says l i z) h)) }
 
 pub spent : {text code : List ℕ} {root : ℕ} {live : List Bool} {m : List (List ℕ)} {o₀ o : List ℕ} {place made : ℕ} {p : Process'} (words most : ℕ) → made ≡ most → Goes text code root live m o₀ o place made p → Executed text code root most words o₀ o (Spent place)
 spent {text} {code} {root} {o₀ = o₀} {o = o} {place = place} words most e g = subst (λ n. Executed text code root n words o₀ o (Spent place)) e (record { says = λ l i z. spent_says words (g.says l i z) })
 
-pub ended : {text code : List ℕ} {root half : ℕ} {live : List Bool} {m m' : List (List ℕ)} {o₀ o o' : List ℕ} {place made slice : ℕ} {p : Process'} {a : Stretch} (most words n : ℕ) → a.ending ≡ Exited' n → Stretched text code (half, live) m m' o o' place p slice a → Goes text code root live m o₀ o place made p → Executed text code root most words o₀ o' (Ended a.place n)
-ended {half = half} {m' = m'} {slice = slice} {a = a} most words n e h g = record { says = λ l i z. ended_says half m' a most slice words n (g.says l i z) (said (Exited' n) e (g.says l i z) h) }
+pub ended : {text code : List ℕ} {root half : ℕ} {live : List Bool} {m m' : List (List ℕ)} {o₀ o o' : List ℕ} {place made slice : ℕ} {p : Process'} {a : Stretch} (most words n : ℕ) → a.ending ≡ Exited' n → Stretched text code (half, live) m m' o o' place p slice a → Onward text code live m o place p a.place → Goes text code root live m o₀ o place made p → Executed text code root most words o₀ o' (Ended a.place n)
+ended {half = half} {m' = m'} {slice = slice} {a = a} most words n e h f g = record { says = λ l i z. ended_says half m' a most slice words n (g.says l i z) (onward (g.says l i z) f) (said (Exited' n) e (g.says l i z) h) }
 
-pub no_room : {text code : List ℕ} {root : ℕ} {m m' : List (List ℕ)} {o₀ o o' : List ℕ} {place made slice : ℕ} {p : Process'} {a : Stretch} (most words : ℕ) → a.ending ≡ NoRoom' → Stretched text code (words / 2, opened 5 (words / 2)) m m' o o' place p slice a → Goes text code root (opened 5 (words / 2)) m o₀ o place made p → Executed text code root most words o₀ o' (NoRoom a.place)
-no_room {m' = m'} {slice = slice} {a = a} most words e h g = record { says = λ l i z. no_room_says m' a most slice words (g.says l i z) (said NoRoom' e (g.says l i z) h) }
+pub no_room : {text code : List ℕ} {root : ℕ} {m m' : List (List ℕ)} {o₀ o o' : List ℕ} {place made slice : ℕ} {p : Process'} {a : Stretch} (most words : ℕ) → a.ending ≡ NoRoom' → Stretched text code (words / 2, opened 5 (words / 2)) m m' o o' place p slice a → Onward text code (opened 5 (words / 2)) m o place p a.place → Goes text code root (opened 5 (words / 2)) m o₀ o place made p → Executed text code root most words o₀ o' (NoRoom a.place)
+no_room {m' = m'} {slice = slice} {a = a} most words e h f g = record { says = λ l i z. no_room_says m' a most slice words (g.says l i z) (onward (g.says l i z) f) (said NoRoom' e (g.says l i z) h) }
 
-pub full : {text code : List ℕ} {root half : ℕ} {live : List Bool} {m m' : List (List ℕ)} {o₀ o o' : List ℕ} {place made slice : ℕ} {p : Process'} {a : Stretch} (most words : ℕ) → a.ending ≡ PaperFull' → Stretched text code (half, live) m m' o o' place p slice a → Goes text code root live m o₀ o place made p → Executed text code root most words o₀ o' (PaperFull a.place)
-full {half = half} {m' = m'} {slice = slice} {a = a} most words e h g = record { says = λ l i z. full_says half m' a most slice words (g.says l i z) (said PaperFull' e (g.says l i z) h) }
+pub full : {text code : List ℕ} {root half : ℕ} {live : List Bool} {m m' : List (List ℕ)} {o₀ o o' : List ℕ} {place made slice : ℕ} {p : Process'} {a : Stretch} (most words : ℕ) → a.ending ≡ PaperFull' → Stretched text code (half, live) m m' o o' place p slice a → Onward text code live m o place p a.place → Goes text code root live m o₀ o place made p → Executed text code root most words o₀ o' (PaperFull a.place)
+full {half = half} {m' = m'} {slice = slice} {a = a} most words e h f g = record { says = λ l i z. full_says half m' a most slice words (g.says l i z) (onward (g.says l i z) f) (said PaperFull' e (g.says l i z) h) }
 
-pub unsupported : {text code : List ℕ} {root half : ℕ} {live : List Bool} {m m' : List (List ℕ)} {o₀ o o' : List ℕ} {place made slice : ℕ} {p : Process'} {a : Stretch} (most words : ℕ) → a.ending ≡ Unsupported' → Stretched text code (half, live) m m' o o' place p slice a → Goes text code root live m o₀ o place made p → Executed text code root most words o₀ o' Unsupported
-unsupported {half = half} {m' = m'} {o' = o'} {slice = slice} {a = a} most words e h g = record { says = λ l i z. beyond_says half m' o' a most slice words (g.says l i z) (said Unsupported' e (g.says l i z) h) }
+pub unsupported : {text code : List ℕ} {root half : ℕ} {live : List Bool} {m m' : List (List ℕ)} {o₀ o o' : List ℕ} {place made slice : ℕ} {p : Process'} {a : Stretch} (most words : ℕ) → a.ending ≡ Unsupported' → Stretched text code (half, live) m m' o o' place p slice a → Onward text code live m o place p a.place → Goes text code root live m o₀ o place made p → Executed text code root most words o₀ o' Unsupported
+unsupported {half = half} {m' = m'} {o' = o'} {slice = slice} {a = a} most words e h f g = record { says = λ l i z. beyond_says half m' o' a most slice words (g.says l i z) (onward (g.says l i z) f) (said Unsupported' e (g.says l i z) h) }
 
 -- the queue is not empty
 pub never_still : {text code : List ℕ} {root : ℕ} {live : List Bool} {m : List (List ℕ)} {o₀ o : List ℕ} {place made : ℕ} {p : Process'} {r : Outcome} (most words : ℕ) → None ≡ first (get_or m 0 []) → Goes text code root live m o₀ o place made p → Executed text code root most words o₀ o r

@@ -23,4 +23,4 @@ run_slices-requires c =
     let e = c.in-Some.ensures in
     let o = rw e.numbers at c.if-not-open_lists.ensures.says in
     let half = length c.args.words.now / 2 in
-    (c.push.ensures.held, c.push.ensures.same ∙ both (bounds c.open_lists.new.st) half (opened 5 half) o.half (o.yes refl), rw c.first_process.ensures (begins c.args.text.now c.args.code.now c.args.root half (model c.push.new.self) c.args.paper.now (omega (arith, e.long)) (queue_begins half 0 (model c.in-Some.st) (model c.open_lists.new.st) (model c.push.new.self) e.none c.open_lists.ensures.after (pushed _ c.push.result c.if-is_err.ensures.value c.push.ensures.after))))
+    (record { held = c.push.ensures.held; st_value = c.push.ensures.same ∙ both (bounds c.open_lists.new.st) half (opened 5 half) o.half (o.yes refl); goes = rw c.first_process.ensures (begins c.args.text.now c.args.code.now c.args.root half (model c.push.new.self) c.args.paper.now (omega (arith, e.long)) (queue_begins half 0 (model c.in-Some.st) (model c.open_lists.new.st) (model c.push.new.self) e.none c.open_lists.ensures.after (pushed _ c.push.result c.if-is_err.ensures.value c.push.ensures.after))) })
