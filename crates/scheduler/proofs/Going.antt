@@ -1,30 +1,28 @@
 -- A run of one process, slice by slice.
-use Rattle.std.proofs.Common.{◌≡◌, ℕ, zero, suc, ◌+◌, ◌-◌, ◌*◌, ◌/◌, ◌<◌, ◌≤◌, Bool, true, false, eqb, ◌⊎◌, List, [], ◌∷◌, ◌++◌, length, get_or, take, drop, set, replicate, Some, None, sym, refl, ap, ◌∙◌, subst, inl, inr, ⊎_elim, arith}
+use Rattle.std.proofs.Common.{◌≡◌, ℕ, zero, suc, ◌+◌, ◌-◌, ◌*◌, ◌/◌, ◌<◌, ◌≤◌, Bool, eqb, List, [], ◌∷◌, ◌++◌, length, get_or, take, drop, set, replicate, Some, None, sym, refl, ap, ◌∙◌, subst, inl, inr, ⊎_elim, arith}
 use mathlib.Core.Option.{Option, some, none}
-use Rattle.std.proofs.lemmas.List.{append_assoc, length-append, length-take-le, length-set, get_or-set_same, get_or-set_other, drop-drop, set-get_or, length-replicate}
+use Rattle.std.proofs.lemmas.List.{length-append, length-take-le, length-set, get_or-set_same, get_or-set_other, drop-drop, set-get_or, length-replicate}
 use Rattle.std.proofs.lemmas.List.Sums.{sum_by-cons}
 use Rattle.std.proofs.lemmas.Bool.{cases_lt}
 use Rattle.segments.specs.Layout.{need}
-use Rattle.store.specs.Sums.{extent}
 use Rattle.syntax.specs.Base.{pick, on_some, nth}
 use Rattle.syntax.specs.Tree.{CommandList}
-use Rattle.reader.specs.Code.{ListCode}
-use Rattle.meaning.specs.System.{Control, at_list, Frame, Process, System, host_paper, find_process}
-use Rattle.meaning.specs.Step.{StepResult, continues, exits, step, settle, move, moves, initial}
-use Rattle.meaning.specs.Space.{control_size, frames_size, needs}
+use Rattle.meaning.specs.System.{Control, at_list, Frame, Process, System, find_process}
+use Rattle.meaning.specs.Step.{continues, step, settle, move, moves, initial}
+use Rattle.meaning.specs.Space.{needs}
 use Rattle.machine.specs.declared.process.Process.{Process as Process'}
 use Rattle.machine.specs.declared.process.Control.TheVariants.{AtList}
 use Rattle.machine.specs.declared.stretch.Ending.{Ending}
 use Rattle.machine.specs.declared.stretch.Ending.TheVariants.{Spent as Spent', Exited as Exited', NoRoom as NoRoom', PaperFull as PaperFull', Unsupported as Unsupported'}
 use Rattle.machine.specs.declared.stretch.Stretch.{Stretch}
-use Rattle.machine.specs.Represent.{Rest, abstract, Has, Lists, Kept, Rep, r_list}
+use Rattle.machine.specs.Represent.{abstract, r_list}
 use Rattle.machine.specs.Promises.{Scarce}
-use Rattle.machine.specs.Promises.{size, StepsTo, Tight, tight_now, tight_then}
+use Rattle.machine.specs.Promises.{size, Tight, tight_now, tight_then}
 use Rattle.machine.specs.Room.{own}
-use Rattle.machine.specs.Stretches.{with_process, Reached, Stands, EndSays, Stretched, Onward}
+use Rattle.machine.specs.Stretches.{Reached, Stands, EndSays, Stretched, Onward}
 use Rattle.machine.proofs.Rooms.{own_room, refusal_bound}
 use Rattle.scheduler.specs.declared.slices.Outcome.{Outcome}
-use Rattle.scheduler.specs.declared.slices.Outcome.TheVariants.{Ended, Still, Spent, NoRoom, PaperFull, Unsupported}
+use Rattle.scheduler.specs.declared.slices.Outcome.TheVariants.{Ended, Spent, NoRoom, PaperFull, Unsupported}
 use Rattle.scheduler.specs.Lists.{opened}
 use Rattle.scheduler.specs.Queue.{first, rotated}
 use Rattle.scheduler.proofs.Opening.{extent_opened}

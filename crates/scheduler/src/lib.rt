@@ -1,4 +1,6 @@
 //! Who moves: the queue of those who can go on, and the loop that gives each a slice of moves.
+#![tactic(auto)]
+
 mod lists;
 mod queue;
 mod slices;

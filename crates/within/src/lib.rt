@@ -1,3 +1,5 @@
+#![tactic(auto)]
+
 ghost use Rattle.within.specs.Statements.{NeverBeyond};
 
 // In every run of a covered text of the core, what comes next is a form that the machine has, and the output is the paper.

@@ -1,12 +1,11 @@
 -- What pushes leave in the lists, and what a refusal says.
-use Rattle.std.proofs.Common.{◌≡◌, ℕ, zero, suc, ◌+◌, ◌-◌, ◌*◌, ◌/◌, ◌<◌, ◌≤◌, min, Bool, true, false, cond, leb, List, [], ◌∷◌, ◌++◌, length, get_or, take, drop, set, Ok, Err, Result, sym, refl, ap, ◌∙◌, subst, ⊎_elim, arith, MatchResult}
-use Rattle.std.proofs.lemmas.List.{append_assoc, set-set, get_or-set_same, set_past, length-append, get_or_past, append-nil, set-get_or, take_more, take-append-drop, take_all, drop_all, length-drop}
+use Rattle.std.proofs.Common.{◌≡◌, ℕ, ◌+◌, ◌-◌, ◌<◌, ◌≤◌, min, Bool, true, false, leb, List, [], ◌++◌, length, get_or, take, drop, set, Ok, Err, sym, refl, ap, ◌∙◌, ⊎_elim, arith}
+use Rattle.std.proofs.lemmas.List.{append_assoc, set-set, get_or-set_same, set_past, length-append, append-nil, set-get_or, take_all, drop_all, length-drop}
 use Rattle.std.proofs.lemmas.Bool.{cases_lt}
 use Rattle.segments.proofs.Moves.{need_at, need_set}
 use Rattle.store.specs.declared.Refusal.{Refusal}
-use Rattle.store.specs.declared.Refusal.TheVariants.{NotInUse, NoRoom}
 use Rattle.segments.specs.Layout.{need}
-use Rattle.store.specs.Sums.{extent, asked, enough, told}
+use Rattle.store.specs.Sums.{asked, enough, told}
 use Rattle.words.specs.Pushed.{Scarce, Pushed}
 
 pub again : (m : List (List ℕ)) (i : ℕ) (y z : List ℕ) →

@@ -1,16 +1,14 @@
 -- Words and text, encoded.
-use Rattle.std.proofs.Common.{◌≡◌, ℕ, zero, suc, ◌+◌, ◌-◌, ◌*◌, ◌%◌, ◌<◌, ◌≤◌, min, Bool, true, false, not, ◌&&◌, ◌||◌, eqb, leb, List, [], ◌∷◌, ◌++◌, length, get_or, take, drop, set, sym, refl, ap, ◌∙◌, subst, ⊎_elim, arith}
-use mathlib.Core.Option.{Option, some, none}
-use Rattle.std.proofs.lemmas.List.{append_assoc, append-nil, length-append, drop_more, take_more, drop_all, length-drop, get_or-set_other, drop-drop, drop_at, take_all, length-take, get_or-take}
+use Rattle.std.proofs.Common.{◌≡◌, ℕ, zero, suc, ◌+◌, ◌-◌, ◌*◌, ◌%◌, ◌<◌, ◌≤◌, min, Bool, true, false, not, ◌&&◌, ◌||◌, eqb, leb, List, [], ◌∷◌, ◌++◌, length, get_or, take, drop, sym, refl, ap, ◌∙◌, subst, ⊎_elim, arith}
+use Rattle.std.proofs.lemmas.List.{append_assoc, append-nil, length-append, drop_more, take_more, drop_all, length-drop, get_or-set_other, drop_at, take_all, length-take, get_or-take}
 use Rattle.std.proofs.lemmas.Bool.{cases_lt}
-use Rattle.segments.specs.Layout.{need}
-use Rattle.syntax.specs.Base.{pick, same, opt}
+use Rattle.syntax.specs.Base.{pick}
 use Rattle.reader.specs.Layout.{flag}
 use Rattle.meaning.specs.System.{QuotedByte, File}
-use Rattle.meaning.specs.Words.{bytes_of, quote_bytes, close_word, has_pattern, pathnames, all_pathnames, join_words}
-use Rattle.words.specs.Encoding.{encoded, coded, marked, plain, Bytes, Small, AllSmall, mark, patterned, any_pattern, named, shown, rev, word_length, second}
+use Rattle.meaning.specs.Words.{bytes_of, quote_bytes, has_pattern, all_pathnames, join_words}
+use Rattle.words.specs.Encoding.{encoded, coded, marked, plain, Bytes, Small, AllSmall, patterned, any_pattern, shown, rev, word_length, second}
 use Rattle.words.specs.Pushed.{Pushed}
-use Rattle.words.proofs.Pushes.{push_more, push_fails, differ}
+use Rattle.words.proofs.Pushes.{push_more, differ}
 
 -- literals
 coded_append : (q : ℕ) (xs ys : List ℕ) → coded q (xs ++ ys) ≡ coded q xs ++ coded q ys

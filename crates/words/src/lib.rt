@@ -1,4 +1,6 @@
 //! Words pushed onto lists of a store, and how words of the shell and texts are encoded there (specs/Encoding.antt).
+#![tactic(auto)]
+
 ghost use Rattle.std.specs.Prelude.{◌≡◌, ℕ, ◌+◌, ◌-◌, ◌*◌, ◌<◌, ◌≤◌, List, [], ◌∷◌, ◌++◌, length, slice_index_or};
 ghost use Rattle.store.specs.Held.{model, bounds, Held};
 ghost use Rattle.words.specs.Pushed.{Pushed};

@@ -1,5 +1,5 @@
-use Rattle.std.proofs.Common.{◌≡◌, sym, refl, ap, ◌∙◌, subst, arith, rules}
-use Rattle.store.specs.Held.{model, bounds}
+use Rattle.std.proofs.Common.{ap, ◌∙◌, arith}
+use Rattle.store.specs.Held.{bounds}
 use Rattle.scheduler.proofs.Opening.{opened_more}
 use Rattle.scheduler.proofs.lists.open_lists.Goals as goal
 

@@ -1,7 +1,6 @@
-use Rattle.std.proofs.Common.{◌≡◌, ℕ, ◌+◌, ◌-◌, ◌*◌, List, [], ◌∷◌, ◌++◌, length, get_or, take, drop, set, sym, refl, ap, ◌∙◌, subst, arith, rules}
+use Rattle.std.proofs.Common.{[], get_or, set, sym, refl, ap, ◌∙◌, arith}
 use Rattle.std.proofs.lemmas.List.{set-get_or}
-use Rattle.store.specs.Held.{model, bounds}
-use Rattle.scheduler.specs.Queue.{rotated}
+use Rattle.store.specs.Held.{model}
 use Rattle.scheduler.proofs.Rotation.{queue_more, queue_last, queue_there, queue_none}
 use Rattle.scheduler.proofs.queue.rotate.Goals as goal
 

@@ -1,4 +1,4 @@
-use Rattle.std.proofs.Common.{◌≡◌, ℕ, ◌/◌, List, [], ◌∷◌, ◌++◌, length, replicate, is_err, sym, refl, ap, ◌∙◌, subst, arith, rules}
+use Rattle.std.proofs.Common.{◌/◌, length, is_err, sym, refl, ap, ◌∙◌, arith}
 use Rattle.store.specs.Held.{model, bounds}
 use Rattle.scheduler.specs.Lists.{opened}
 use Rattle.scheduler.proofs.Opening.{few_lists, few_words, pushed, queue_begins, both}

@@ -1,4 +1,4 @@
-use Rattle.std.proofs.Common.{◌≡◌, sym, refl, ap, ◌∙◌, subst, arith, rules}
+use Rattle.std.proofs.Common.{◌∙◌, arith}
 use Rattle.scheduler.proofs.Going.{goes_on, spent, ended, no_room, full, unsupported, never_still}
 use Rattle.scheduler.proofs.slices.run_slices.Goals as goal
 
