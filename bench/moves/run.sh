@@ -2,13 +2,18 @@
 # Moves per second: a loop of true, 10,000 commands one after the other again and again, and yes until the paper is full.
 set -eu
 cd "$(dirname "${BASH_SOURCE[0]}")/../.."
-rt check zibkora > /dev/null
+./zibkora --help > /dev/null
+program=crates/zibkora/out/zibkora
+if [ "$("$program" -n -c true 2>&1)" != 'ended 0' ]; then
+    echo "texts are not run yet" >&2
+    exit 1
+fi
 # NAME MOVES TEXT: the time of a run that is stopped after so many moves, three times, the best
 row() {
     best=
     for _ in 1 2 3; do
         begin=$(date +%s%N)
-        target/bin/zibkora -n --moves "$2" -c "$3" > /dev/null 2>&1 || true
+        "$program" -n --moves "$2" -c "$3" > /dev/null 2>&1 || true
         end=$(date +%s%N)
         t=$((end - begin))
         if [ -z "$best" ] || [ "$t" -lt "$best" ]; then best=$t; fi
