@@ -3,8 +3,9 @@
 set -e
 here=$(cd "$(dirname "$0")" && pwd)
 cd "$here/../.."
-(cd crates/store_bench && rt lib)
 out=target/bench/store
 mkdir -p "$out"
-rustc --edition 2024 -C opt-level=3 -C target-cpu=native -o "$out/bench" "$here/bench.rs" -L crates/store_bench/out -l static=store_bench
+(cd crates/store_bench_c && rt lib)
+cp crates/store_bench_c/out/libstore_bench_c.a "$out/libstore_bench.a"
+rustc --edition 2024 -C opt-level=3 -C target-cpu=native -o "$out/bench" "$here/bench.rs" -L "$out" -l static=store_bench
 "$out/bench"

@@ -690,7 +690,7 @@ fn while_loop(
     Ok(end)
 }
 
-/// if list then list else_part: next, tag, condition, then, else, redirections.
+/// if list then list else-part: next, tag, condition, then, else, redirections.
 #[cycle(parsing)]
 fn if_command(
     text: &[u8],

@@ -10,7 +10,7 @@
 // free, and moves are paid for by pushes: `spent` rises by at most 128 for each word that comes and 64 for each fresh list.
 #![tactic(auto)]
 
-ghost use Rattle.std.specs.Prelude.{◌≡◌, ℕ, ◌+◌, ◌-◌, ◌*◌, ◌/◌, ◌<◌, ◌≤◌, min, Bool, true, false, ◌&&◌, ◌||◌, ltb, ◌≢◌, ◌⊎◌, List, [], ◌∷◌, ◌++◌, length, get_or, take, drop, is_some, is_ok, if◌then◌else◌, Some, None, MatchOption, MatchResult, nat_le, nat_lt, slice_index, slice_index_or, slice_set};
+ghost use Rattle.std.specs.Prelude.{◌≡◌, ℕ, ◌+◌, ◌-◌, ◌*◌, ◌/◌, ◌<◌, ◌≤◌, min, Bool, true, false, ◌&&◌, ◌||◌, nat_lt, ◌≢◌, ◌⊎◌, List, [], ◌∷◌, ◌++◌, length, get_or, take, drop, is_some, is_ok, if◌then◌else◌, Some, None, MatchOption, MatchResult, nat_le, nat_lt, slice_index, slice_index_or, slice_set};
 ghost use Rattle.std.specs.List.{prefix_len};
 ghost use Rattle.segments.specs.Layout.{field, start, size, room, mark, segs, need, tense, strain, spread};
 ghost use Rattle.store.specs.Sums.{extent, asked, enough, told, final};
@@ -358,7 +358,7 @@ impl Store<'_> {
         ensures held { Held self.new }
         ensures same { bounds self.new ≡ (if is_some result then ((bounds self.old).0, slice_set (bounds self.old).1 (prefix_len (λ b. b) (bounds self.old).1) true) else bounds self.old) }
         ensures after { model self.new ≡ model self.old }
-        ensures says { result ≡ (if ltb (prefix_len (λ b. b) (bounds self.old).1) (extent (bounds self.old).1) || enough (bounds self.old) (model self.old) 8 then Some (prefix_len (λ b. b) (bounds self.old).1) else None) }
+        ensures says { result ≡ (if nat_lt (prefix_len (λ b. b) (bounds self.old).1) (extent (bounds self.old).1) || enough (bounds self.old) (model self.old) 8 then Some (prefix_len (λ b. b) (bounds self.old).1) else None) }
         ensures dense { Dense (bounds self.old).1 → Dense (bounds self.new).1 }
         ensures cost { spent self.new ≤ spent self.old + 64 }
     {
@@ -482,7 +482,7 @@ impl Store<'_> {
         ensures held { Held self.new }
         ensures same { bounds self.new ≡ (if nat_le (i + k) (extent (bounds self.old).1) then ((bounds self.old).0, marked (bounds self.old).1 (extent (bounds self.old).1 - k) k false) else bounds self.old) }
         ensures after { model self.new ≡ (if nat_le (i + k) (extent (bounds self.old).1) then replaced_block (model self.old) i (extent (bounds self.old).1 - k) k else model self.old) }
-        ensures says { result ≡ (if ltb (i + k) (extent (bounds self.old).1) then Some (extent (bounds self.old).1 - k) else None) }
+        ensures says { result ≡ (if nat_lt (i + k) (extent (bounds self.old).1) then Some (extent (bounds self.old).1 - k) else None) }
         ensures dense { Dense (bounds self.new).1 }
         ensures cost { spent self.new ≤ spent self.old }
     {

@@ -60,8 +60,7 @@ fn touch(st: &mut Store, lists: usize, count: u32) -> u32
 }
 
 // Makes lists 0 up to `last`, fills them, and touches them one after another.
-#[unsafe(no_mangle)]
-pub extern "C" fn store_bench_touch(words: &mut [u32], last: usize, fill: u32, count: u32) -> u32 {
+pub fn store_bench_touch(words: &mut [u32], last: usize, fill: u32, count: u32) -> u32 {
     let Some(mut st) = store_in(words) else {
         return 0;
     };
@@ -72,8 +71,7 @@ pub extern "C" fn store_bench_touch(words: &mut [u32], last: usize, fill: u32, c
 
 // Makes lists 0 up to `last`, fills them to `size` words each, and then pushes `pushes` words and cuts the lists again, `rounds` times;
 // the answer is how many pushes of the rounds found room.
-#[unsafe(no_mangle)]
-pub extern "C" fn store_bench_rounds(
+pub fn store_bench_rounds(
     words: &mut [u32],
     last: usize,
     fill: u32,
@@ -95,8 +93,7 @@ pub extern "C" fn store_bench_rounds(
 }
 
 // How many words the same moves.
-#[unsafe(no_mangle)]
-pub extern "C" fn store_bench_moved(
+pub fn store_bench_moved(
     words: &mut [u32],
     last: usize,
     fill: u32,

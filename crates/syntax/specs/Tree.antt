@@ -38,7 +38,7 @@ mutual
     group : CommandList → Redirects → Command
     -- ( list )
     subshell : CommandList → Redirects → Command
-    -- if list then list else_part
+    -- if list then list else-part
     if : CommandList → CommandList → ElsePart → Redirects → Command
     -- while list do list done
     while : CommandList → CommandList → Redirects → Command
