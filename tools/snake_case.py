@@ -11,7 +11,6 @@ import os
 import re
 import sys
 
-BOUND = " \t\n(){}[],;.λ:=→↦|\"`"
 WORD = re.compile(r"[^\s(){}\[\],;.λ:=→↦|\"`]+")
 NAME = r"[A-Za-z][^\s(){}\[\],;.λ:=→↦|\"`]*"
 DECL = re.compile(r"^\s*((?:(?:abbrev|unfoldable|pub|hint|private|instance)\s+)*)((?:record|data|module|ruleset)\s+)?(" + NAME + r")((?:\s+" + NAME + r")*)\s*(?=[({:]|\s:)")

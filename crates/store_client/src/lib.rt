@@ -153,6 +153,7 @@ pub fn start(st: &mut Store, v: u32) -> Option<usize>
     requires dense_2 { Dense (bounds st.old).1 }
     ensures held { Held st.new }
     ensures dense { Dense (bounds st.new).1 }
+    ensures begun { IfSome result (λ base. model st.new ≡ slice_set (model st.old) base (slice_index_or (model st.old) base [] ++ (v ∷ []))) }
 {
     let base = st.fresh_block(BLOCK)?;
     if st.push(base, v).is_err() {

@@ -5,6 +5,8 @@ ghost use Rattle.std.specs.Prelude.{◌≡◌};
 ghost use Rattle.store.specs.Held.{Held};
 
 mod mirror;
+#[cfg(test)]
+mod tests;
 
 use anyhow::anyhow;
 use mirror::{LISTS, Mirror};
@@ -22,9 +24,14 @@ fn rise(m: &mut Mirror, st: &mut Store, heap: Global) -> Result<(), AllocError>
     ensures { Held st.new }
 {
     let i = m.pick(LISTS + 1);
-    match m.pick(8) {
+    match m.pick_kind(8) {
         0 => {
             m.fresh(st);
+            Ok(())
+        }
+        8 => {
+            let k = m.pick(4);
+            m.fresh_block(st, k);
             Ok(())
         }
         1 => {
@@ -54,8 +61,9 @@ fn fall(m: &mut Mirror, st: &mut Store)
 {
     let i = m.pick(LISTS + 1);
     let len = m.len(i);
-    match m.pick(6) {
+    match m.pick_kind(6) {
         0 => m.free(st, i),
+        6 => m.remove(st, i),
         1 => m.truncate(st, i, len / 2),
         2 => {
             let j = m.pick(len);

@@ -14,6 +14,8 @@ pub struct Mirror {
     live: Vec<bool>,
     half: usize,
     seed: u64,
+    // Whether numbers are also taken in a row, and given back by the last in use.
+    pub in_blocks: bool,
     pub ops: u64,
     pub moves: u64,
     pub refusals: u64,
@@ -42,6 +44,7 @@ impl Mirror {
             live,
             half: words / 2,
             seed,
+            in_blocks: false,
             ops: 0,
             moves: 0,
             refusals: 0,
@@ -61,6 +64,11 @@ impl Mirror {
             return 0;
         }
         (self.seed >> 33) as usize % below
+    }
+
+    // One of so many kinds of steps, and of one kind more where numbers come in blocks.
+    pub fn pick_kind(&mut self, kinds: u32) -> usize {
+        self.pick(kinds as usize + usize::from(self.in_blocks))
     }
 
     fn check(&mut self, right: bool) {
@@ -282,9 +290,7 @@ impl Mirror {
         }
         self.check(got == if room { Some(first) } else { None });
         if room {
-            if let Some(b) = self.live.get_mut(first) {
-                *b = true;
-            }
+            self.mark(first, true);
         }
     }
 
@@ -293,13 +299,59 @@ impl Mirror {
         ensures { Held st.new }
     {
         st.free(i);
+        self.forget(i);
+        self.ops = self.ops.wrapping_add(1);
+    }
+
+    // As many numbers in a row, behind the last in use.
+    pub fn fresh_block(&mut self, st: &mut Store, k: usize)
+        requires { Held st.old }
+        ensures { Held st.new }
+    {
+        let first = self.extent();
+        if first.wrapping_add(k) > LISTS {
+            return;
+        }
+        let room = self.enough(k.wrapping_mul(8));
+        let got = st.fresh_block(k);
+        self.ops = self.ops.wrapping_add(1);
+        self.check(got == if room { Some(first) } else { None });
+        if room {
+            for j in 0..k {
+                self.mark(first.wrapping_add(j), true);
+            }
+        }
+    }
+
+    // The last list in use takes the place of list i.
+    pub fn remove(&mut self, st: &mut Store, i: usize)
+        requires { Held st.old }
+        ensures { Held st.new }
+    {
+        let last = self.extent().wrapping_sub(1);
+        let moves = self.alive(i) && i != last;
+        let got = st.remove(i);
+        self.ops = self.ops.wrapping_add(1);
+        self.check(got == if moves { Some(last) } else { None });
+        if !self.alive(i) || i >= self.lists.len() || last >= self.lists.len() {
+            return;
+        }
+        self.lists.swap(i, last);
+        self.forget(last);
+    }
+
+    // Number i is not in use any more.
+    fn forget(&mut self, i: usize) {
         if let Some(l) = self.lists.get_mut(i) {
             l.clear();
         }
+        self.mark(i, false);
+    }
+
+    fn mark(&mut self, i: usize, used: bool) {
         if let Some(b) = self.live.get_mut(i) {
-            *b = false;
+            *b = used;
         }
-        self.ops = self.ops.wrapping_add(1);
     }
 
     // Whether list i is the same in both, word for word.

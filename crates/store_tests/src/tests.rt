@@ -1,10 +1,10 @@
-// The tests.
+// Long runs in which numbers also come in blocks, and refusals at the exact word.
 ghost use Rattle.std.specs.Prelude.{◌≡◌};
 ghost use Rattle.store.specs.Held.{Held, bounds};
 ghost use Rattle.store.specs.Dense.{Dense};
 
 use super::mirror::Mirror;
-use super::runs::run;
+use super::run;
 use std::alloc::Global;
 use std::process::Abort;
 use std::test::Fail;
@@ -17,6 +17,7 @@ fn long_run(heap: Global, size: usize) -> Result<Mirror, Fail> {
         return Err(Fail::new("no store"));
     };
     let mut m = Mirror::new(heap, size, 7)?;
+    m.in_blocks = true;
     run(&mut m, &mut st, heap, 2000)?;
     Ok(m)
 }
