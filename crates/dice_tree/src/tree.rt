@@ -1,8 +1,10 @@
 //! Command trees, which own what is in them, and what is lent of them to who walks them: slices.
 
+ghost use Rattle.dice_tree.specs.declared.tree.AndOr.{out-AndOr};
 ghost use Rattle.std.specs.List.{IsFirstAndRest, IsLastAndRest};
-ghost use Rattle.std.specs.Prelude.{◌≡◌, ◌+◌, ◌≤◌, length, MatchOption};
+ghost use Rattle.std.specs.Prelude.{◌≡◌, ◌≤◌, drop, length, MatchOption};
 
+use crate::signs::{Keyword, Quote, Sign};
 use std::alloc::{AllocError, AllocFailed};
 use std::fmt;
 
@@ -148,7 +150,9 @@ pub struct Joins<'t> {
 
 impl AndOr {
     /// All its pipelines.
-    pub fn joins(&self) -> Joins<'_> {
+    pub fn joins(&self) -> Joins<'_>
+        ensures { (result.first.now ≡ (out-AndOr self.now).first) × (result.rest.now ≡ (out-AndOr self.now).rest.items) }
+    {
         Joins {
             first: &self.first,
             rest: &self.rest,
@@ -163,7 +167,7 @@ impl<'t> Joins<'t> {
             (λ p. IsLastAndRest self.entry.rest.now p.0.now p.1.rest.now × (p.1.first.now ≡ self.entry.first.now)) }
     {
         let (last, rest) = self.rest.split_last()?;
-        Some((last, Joins { first: self.first, rest }))
+        Some((last, Joins { rest, ..self }))
     }
 }
 
@@ -181,15 +185,18 @@ impl<'t> Unexpanded<'t> {
             (λ p. IsFirstAndRest self.entry.parts.now p.0.now p.1.parts.now × (p.1.words.now ≡ self.entry.words.now)) }
     {
         let (first, parts) = self.parts.split_first()?;
-        Some((first, Unexpanded { parts, words: self.words }))
+        Some((first, Unexpanded { parts, ..self }))
     }
 
     /// The next word is at work.
     pub fn next_word(self) -> Option<Unexpanded<'t>>
-        ensures { MatchOption result (length self.entry.words.now ≡ 0) (λ u. length u.words.now + 1 ≡ length self.entry.words.now) }
+        ensures { MatchOption result (length self.entry.words.now ≡ 0) (λ u. u.words.now ≡ drop 1 self.entry.words.now) }
     {
         let (first, words) = self.words.split_first()?;
-        Some(Unexpanded { parts: &first.parts, words })
+        Some(Unexpanded {
+            parts: &first.parts,
+            words,
+        })
     }
 }
 
@@ -199,9 +206,9 @@ pub enum Expected {
     Command,
     Word,
     Name,
-    Keyword(&'static str),
-    Sign(&'static str),
-    ClosingQuote(&'static str),
+    Keyword(Keyword),
+    Sign(Sign),
+    ClosingQuote(Quote),
     Separator,
     Terminator,
     ElseOrFi,
