@@ -13,8 +13,10 @@ use crate::tree::{
 use std::alloc::Global;
 use std::marker::Model;
 
+/// A text has at most so many bytes.
 pub const MOST_BYTES: usize = 16384;
 
+/// Lists stand at most so deep in lists, the text's own counted.
 const LEVELS: u32 = 33;
 
 /// What stands at the next token, where a command may begin.
@@ -53,10 +55,6 @@ pub fn valid_name(name: &[u8]) -> bool
     }
 }
 
-fn reserved(word: &[u8]) -> bool {
-    Keyword::try_from(word).is_ok()
-}
-
 /// The first word of a simple command is no reserved word.
 fn first_word_fits(word: &Word) -> bool {
     match word.parts.as_slice() {
@@ -65,7 +63,7 @@ fn first_word_fits(word: &Word) -> bool {
                 quoted: false,
                 bytes,
             },
-        ] => !reserved(bytes),
+        ] => Keyword::try_from(bytes.as_slice()).is_err(),
         _ => true,
     }
 }
@@ -114,6 +112,7 @@ impl<'t> Model for Parser<'t> {
 }
 
 impl<'t> Parser<'t> {
+    /// Goes on over the next token, if there is one.
     fn advance(&mut self)
         ensures { self.new ≡ self.old - 1 }
     {
@@ -211,6 +210,7 @@ impl<'t> Parser<'t> {
         }
     }
 
+    /// The next token, if it is a sign.
     fn sign(&self) -> Option<Sign>
         ensures { IsSome result → 0 < self.now }
     {
