@@ -1,169 +1,167 @@
 //! From bytes to tokens, a byte at a time. Every text has tokens; whether they are a list of commands the parser says.
 
-use crate::tree::{Bytes, Chain, Fault};
+use crate::signs::{Quote, Sign};
+use crate::tree::Fault;
 use std::alloc::Global;
 
 #[derive(Clone, Copy)]
-pub enum TokenKind {
+pub enum TokenKind<'t> {
     /// Bytes outside quotes.
-    Bare,
+    Bare(&'t [u8]),
     /// Bytes from quotes.
-    Quoted,
+    Quoted(&'t [u8]),
     /// What stands behind $, in double quotes or not.
-    Parameter { quoted: bool },
+    Parameter { quoted: bool, name: &'t [u8] },
     /// $( in double quotes or not.
     Open { quoted: bool },
-    /// ; & | < > alone or twice, ( ) and the end of a line.
-    Sign,
+    Sign(Sign),
     /// The quote that the text does not close, as a token at the text's end.
-    Unclosed { double: bool },
+    Unclosed(Quote),
 }
 
-/// A token: whether it is joined to the one before, with nothing between them; its kind; its bytes, and where it stands.
+/// A token; whether it is joined to the one before, with nothing between them; and where it stands.
 #[derive(Clone, Copy)]
-pub struct Token {
+pub struct Token<'t> {
     pub joined: bool,
-    pub kind: TokenKind,
-    pub bytes: Bytes,
+    pub kind: TokenKind<'t>,
     pub place: usize,
 }
 
 /// What has begun and is not a token yet.
 #[derive(Clone, Copy)]
-enum Pending {
-    Nothing,
-    InWord,
-    InQuote,
-    InText,
-    AfterDollar,
-    InName,
-    InSign(u8),
-    InComment,
+enum Beginning {
+    Word,
+    /// In single quotes.
+    Quote,
+    /// In double quotes.
+    Text,
+    Dollar,
+    Name,
+    Sign(Sign),
+    Comment,
 }
 
-/// An open bracket: whether it is a $( and whether that stands in double quotes.
+/// What has begun, and where.
 #[derive(Clone, Copy)]
-struct Bracket {
-    substitution: bool,
-    quoted: bool,
+struct Begun {
+    what: Beginning,
+    start: usize,
 }
 
-/// In double quotes or not; the open brackets; whether the next token is joined; what has begun, and where.
+/// An open bracket.
+#[derive(Clone, Copy)]
+enum Bracket {
+    Plain,
+    /// $( in double quotes or not.
+    Substitution { quoted: bool },
+}
+
+/// In double quotes or not; the open brackets; whether the next token is joined; what has begun; the tokens so far.
 #[derive(Drop)]
-struct Lexer {
+struct Lexer<'t> {
+    text: &'t [u8],
     quoted: bool,
     outer: Vec<Bracket>,
     glue: bool,
-    pending: Pending,
-    start: usize,
-    tokens: Vec<Token>,
+    begun: Option<Begun>,
+    tokens: Vec<Token<'t>>,
 }
 
-fn space(c: u8) -> bool {
-    c == b' ' || c == b'\t'
+/// A byte of a name that may be its first.
+pub fn begins_name(c: u8) -> bool {
+    c.is_ascii_alphabetic() || c == b'_'
 }
 
-/// ; & | < > may come twice.
-fn doubles(c: u8) -> bool {
-    matches!(c, b';' | b'&' | b'|' | b'<' | b'>')
+/// A byte of a name.
+pub fn in_name(c: u8) -> bool {
+    begins_name(c) || c.is_ascii_digit()
 }
 
-pub fn letter(c: u8) -> bool {
-    matches!(c, b'a'..=b'z' | b'A'..=b'Z' | b'_')
-}
-
-pub fn digit(c: u8) -> bool {
-    matches!(c, b'0'..=b'9')
-}
-
-/// Blanks, signs, the end of a line, brackets, quotes and $.
+/// Blanks, signs, quotes and $.
 fn ends_word(c: u8) -> bool {
-    space(c) || doubles(c) || matches!(c, b'\n' | b'(' | b')' | b'"' | b'\'' | b'$')
+    matches!(c, b' ' | b'\t' | b'"' | b'\'' | b'$') || Sign::try_from(c).is_ok()
 }
 
-impl Lexer {
-    fn put(
-        &mut self,
-        joined: bool,
-        kind: TokenKind,
-        bytes: Bytes,
-        place: usize,
-    ) -> Result<(), Fault> {
+impl<'t> Lexer<'t> {
+    /// Bytes of the text.
+    fn bytes(&self, from: usize, to: usize) -> &'t [u8] {
+        self.text.get(from..to).unwrap_or(&[])
+    }
+
+    fn put(&mut self, joined: bool, kind: TokenKind<'t>, place: usize) -> Result<(), Fault> {
         self.tokens.push(Token {
             joined,
             kind,
-            bytes,
             place,
         })?;
         Ok(())
     }
 
     /// A sign ends what was joined.
-    fn put_sign(&mut self, from: usize, to: usize) -> Result<(), Fault> {
+    fn put_sign(&mut self, sign: Sign, place: usize) -> Result<(), Fault> {
         self.glue = false;
-        self.put(false, TokenKind::Sign, Chain { from, to }, from)
+        self.put(false, TokenKind::Sign(sign), place)
     }
 
     /// Something begins here that becomes a token later.
-    fn begin(&mut self, pending: Pending, at: usize) {
-        self.pending = pending;
-        self.start = at;
+    fn begin(&mut self, what: Beginning, start: usize) {
+        self.begun = Some(Begun { what, start });
     }
 
     /// A byte inside double quotes where nothing has begun.
     fn scan_in_quotes(&mut self, c: u8, at: usize) {
-        if c == b'"' {
-            self.quoted = false;
-            self.glue = true;
-        } else if c == b'$' {
-            self.begin(Pending::AfterDollar, at);
-        } else {
-            self.begin(Pending::InText, at);
+        match c {
+            b'"' => {
+                self.quoted = false;
+                self.glue = true;
+            }
+            b'$' => self.begin(Beginning::Dollar, at),
+            _ => self.begin(Beginning::Text, at),
         }
     }
 
     /// A byte outside quotes where nothing has begun. An opening " is an empty quoted token, so that "" is a word;
     /// # begins a comment only where no word has begun.
     fn scan_bare(&mut self, c: u8, at: usize) -> Result<(), Fault> {
-        if space(c) {
-            self.glue = false;
-        } else if c == b'\n' {
-            self.put_sign(at, at.saturating_add(1))?;
-        } else if c == b'#' && !self.glue {
-            self.begin(Pending::InComment, at);
-        } else if c == b'"' {
-            self.put(self.glue, TokenKind::Quoted, Chain::empty(), at)?;
-            self.quoted = true;
-            self.glue = true;
-        } else if c == b'\'' {
-            self.begin(Pending::InQuote, at);
-        } else if c == b'$' {
-            self.begin(Pending::AfterDollar, at);
-        } else if c == b'(' || c == b')' {
-            self.scan_bracket(c, at)?;
-        } else if doubles(c) {
-            self.begin(Pending::InSign(c), at);
-        } else {
-            self.begin(Pending::InWord, at);
+        match c {
+            b' ' | b'\t' => self.glue = false,
+            b'#' if !self.glue => self.begin(Beginning::Comment, at),
+            b'"' => {
+                self.put(self.glue, TokenKind::Quoted(&[]), at)?;
+                self.quoted = true;
+                self.glue = true;
+            }
+            b'\'' => self.begin(Beginning::Quote, at),
+            b'$' => self.begin(Beginning::Dollar, at),
+            _ => match Sign::try_from(c) {
+                Ok(sign) => self.scan_sign(sign, at)?,
+                Err(_) => self.begin(Beginning::Word, at),
+            },
         }
         Ok(())
     }
 
-    /// A ) gives back what was before its bracket.
-    fn scan_bracket(&mut self, c: u8, at: usize) -> Result<(), Fault> {
-        self.put_sign(at, at.saturating_add(1))?;
-        if c == b'(' {
-            self.outer.push(Bracket {
-                substitution: false,
-                quoted: false,
-            })?;
-        } else if let Some(bracket) = self.outer.pop() {
-            self.quoted = bracket.quoted;
-            self.glue = bracket.substitution;
+    /// A ) gives back what was before its bracket; a sign that may come twice has only begun.
+    fn scan_sign(&mut self, sign: Sign, at: usize) -> Result<(), Fault> {
+        if sign.twice().is_some() {
+            self.begin(Beginning::Sign(sign), at);
+            return Ok(());
+        }
+        self.put_sign(sign, at)?;
+        match sign {
+            Sign::OpenParenthesis => self.outer.push(Bracket::Plain)?,
+            Sign::CloseParenthesis => {
+                if let Some(Bracket::Substitution { quoted }) = self.outer.pop() {
+                    self.quoted = quoted;
+                    self.glue = true;
+                }
+            }
+            _ => {}
         }
         Ok(())
     }
 
+    /// A byte where nothing has begun.
     fn scan_fresh(&mut self, c: u8, at: usize) -> Result<(), Fault> {
         if self.quoted {
             self.scan_in_quotes(c, at);
@@ -175,159 +173,148 @@ impl Lexer {
 
     /// What had begun is over at `at`: its token. A $ before anything else is itself.
     fn flush(&mut self, at: usize) -> Result<(), Fault> {
-        let bytes = Chain {
-            from: self.start,
-            to: at,
+        let Some(Begun { what, start }) = self.begun.take() else {
+            return Ok(());
         };
-        let pending = self.pending;
-        self.pending = Pending::Nothing;
-        match pending {
-            Pending::Nothing | Pending::InComment => Ok(()),
-            Pending::InWord => self.put(self.glue, TokenKind::Bare, bytes, self.start),
-            Pending::InText => self.put(self.glue, TokenKind::Quoted, bytes, self.start),
-            Pending::InQuote => self.put(
-                false,
-                TokenKind::Unclosed { double: false },
-                Chain::empty(),
-                at,
-            ),
-            Pending::AfterDollar if self.quoted => self.put(
+        let bytes = self.bytes(start, at);
+        match what {
+            Beginning::Comment => Ok(()),
+            Beginning::Text => self.put(self.glue, TokenKind::Quoted(bytes), start),
+            Beginning::Dollar if self.quoted => self.put(
                 self.glue,
-                TokenKind::Quoted,
-                bytes,
-                self.start,
+                TokenKind::Quoted(bytes),
+                start,
             ),
-            Pending::AfterDollar => self.put(self.glue, TokenKind::Bare, bytes, self.start),
-            Pending::InName => {
-                let name = Chain {
-                    from: self.start.saturating_add(1),
-                    to: at,
-                };
-                self.put(
-                    self.glue,
-                    TokenKind::Parameter {
-                        quoted: self.quoted,
-                    },
-                    name,
-                    self.start,
-                )
+            Beginning::Word | Beginning::Dollar => self.put(
+                self.glue,
+                TokenKind::Bare(bytes),
+                start,
+            ),
+            Beginning::Quote => self.put(false, TokenKind::Unclosed(Quote::Single), at),
+            Beginning::Name => {
+                let name = self.bytes(start.saturating_add(1), at);
+                self.put_parameter(name, start)
             }
-            Pending::InSign(_) => self.put(false, TokenKind::Sign, bytes, self.start),
+            Beginning::Sign(sign) => self.put(false, TokenKind::Sign(sign), start),
         }
+    }
+
+    fn put_parameter(&mut self, name: &'t [u8], place: usize) -> Result<(), Fault> {
+        let quoted = self.quoted;
+        self.put(self.glue, TokenKind::Parameter { quoted, name }, place)
     }
 
     /// What had begun is over, and the byte is the first of what follows.
     fn flush_and_scan(&mut self, c: u8, at: usize) -> Result<(), Fault> {
-        let sign = matches!(self.pending, Pending::InSign(_));
+        let sign = matches!(
+            self.begun,
+            Some(Begun {
+                what: Beginning::Sign(_),
+                ..
+            },)
+        );
         self.flush(at)?;
         self.glue = !sign;
         self.scan_fresh(c, at)
     }
 
-    /// Behind $: a bracket, a name, or one of the digits, # and ?.
-    fn scan_dollar(&mut self, c: u8, at: usize) -> Result<(), Fault> {
-        if c == b'(' {
-            self.put(
-                self.glue,
-                TokenKind::Open {
-                    quoted: self.quoted,
-                },
-                Chain::empty(),
-                self.start,
-            )?;
-            self.outer.push(Bracket {
-                substitution: true,
-                quoted: self.quoted,
-            })?;
-            self.quoted = false;
-            self.glue = false;
-            self.pending = Pending::Nothing;
-            Ok(())
-        } else if letter(c) {
-            self.pending = Pending::InName;
-            Ok(())
-        } else if digit(c) || c == b'#' || c == b'?' {
-            let name = Chain {
-                from: at,
-                to: at.saturating_add(1),
-            };
-            self.put(
-                self.glue,
-                TokenKind::Parameter {
-                    quoted: self.quoted,
-                },
-                name,
-                self.start,
-            )?;
-            self.glue = true;
-            self.pending = Pending::Nothing;
-            Ok(())
-        } else {
-            self.flush_and_scan(c, at)
+    /// Behind the $ at `start`: a bracket, a name, or one of the digits, # and ?.
+    fn scan_dollar(&mut self, start: usize, c: u8, at: usize) -> Result<(), Fault> {
+        match c {
+            b'(' => self.open_substitution(start),
+            b'0'..=b'9' | b'#' | b'?' => {
+                let name = self.bytes(at, at.saturating_add(1));
+                self.put_parameter(name, start)?;
+                self.glue = true;
+                self.begun = None;
+                Ok(())
+            }
+            _ if begins_name(c) => {
+                self.begin(Beginning::Name, start);
+                Ok(())
+            }
+            _ => self.flush_and_scan(c, at),
         }
     }
 
-    /// The closing ' of a quote.
-    fn close_quote(&mut self, at: usize) -> Result<(), Fault> {
-        let bytes = Chain {
-            from: self.start.saturating_add(1),
-            to: at,
-        };
-        self.put(self.glue, TokenKind::Quoted, bytes, self.start)?;
+    /// The ( behind the $ at `start`.
+    fn open_substitution(&mut self, start: usize) -> Result<(), Fault> {
+        let quoted = self.quoted;
+        self.put(self.glue, TokenKind::Open { quoted }, start)?;
+        self.outer.push(Bracket::Substitution { quoted })?;
+        self.quoted = false;
+        self.glue = false;
+        self.begun = None;
+        Ok(())
+    }
+
+    /// The closing ' of the quote at `start`.
+    fn close_quote(&mut self, start: usize, at: usize) -> Result<(), Fault> {
+        let bytes = self.bytes(start.saturating_add(1), at);
+        self.put(self.glue, TokenKind::Quoted(bytes), start)?;
         self.glue = true;
-        self.pending = Pending::Nothing;
+        self.begun = None;
         Ok(())
     }
 
     /// One byte.
     fn scan_byte(&mut self, c: u8, at: usize) -> Result<(), Fault> {
-        match self.pending {
-            Pending::Nothing => self.scan_fresh(c, at),
-            Pending::InWord if ends_word(c) => self.flush_and_scan(c, at),
-            Pending::InQuote if c == b'\'' => self.close_quote(at),
-            Pending::InText if c == b'"' || c == b'$' => self.flush_and_scan(c, at),
-            Pending::InWord | Pending::InQuote | Pending::InText => Ok(()),
-            Pending::AfterDollar => self.scan_dollar(c, at),
-            Pending::InName if letter(c) || digit(c) => Ok(()),
-            Pending::InName => self.flush_and_scan(c, at),
-            Pending::InSign(d) if c == d => {
-                self.pending = Pending::Nothing;
-                self.put_sign(self.start, at.saturating_add(1))
+        let Some(Begun { what, start }) = self.begun else {
+            return self.scan_fresh(c, at);
+        };
+        match what {
+            Beginning::Word if ends_word(c) => self.flush_and_scan(c, at),
+            Beginning::Quote if c == b'\'' => self.close_quote(start, at),
+            Beginning::Text if matches!(c, b'"' | b'$') => self.flush_and_scan(c, at),
+            Beginning::Name if !in_name(c) => self.flush_and_scan(c, at),
+            Beginning::Dollar => self.scan_dollar(start, c, at),
+            Beginning::Sign(sign) => self.scan_behind_sign(sign, start, c, at),
+            Beginning::Comment if c == b'\n' => {
+                self.begun = None;
+                self.put_sign(Sign::EndOfLine, at)
             }
-            Pending::InSign(_) => self.flush_and_scan(c, at),
-            Pending::InComment if c == b'\n' => {
-                self.pending = Pending::Nothing;
-                self.glue = false;
-                self.scan_bare(c, at)
+            Beginning::Word
+            | Beginning::Quote
+            | Beginning::Text
+            | Beginning::Name
+            | Beginning::Comment => Ok(()),
+        }
+    }
+
+    /// The byte behind a sign that may come twice.
+    fn scan_behind_sign(
+        &mut self,
+        sign: Sign,
+        start: usize,
+        c: u8,
+        at: usize,
+    ) -> Result<(), Fault> {
+        match sign.twice() {
+            Some(double) if Sign::try_from(c) == Ok(sign) => {
+                self.begun = None;
+                self.put_sign(double, start)
             }
-            Pending::InComment => Ok(()),
+            _ => self.flush_and_scan(c, at),
         }
     }
 }
 
 /// The tokens of a text.
-pub fn tokens(heap: Global, text: &[u8]) -> Result<Vec<Token>, Fault> {
-    let outer = Vec::new(heap);
-    let tokens = Vec::new(heap);
+pub fn tokens<'t>(heap: Global, text: &'t [u8]) -> Result<Vec<Token<'t>>, Fault> {
     let mut lexer = Lexer {
+        text,
         quoted: false,
-        outer,
+        outer: Vec::new(heap),
         glue: false,
-        pending: Pending::Nothing,
-        start: 0,
-        tokens,
+        begun: None,
+        tokens: Vec::new(heap),
     };
     for (at, c) in text.iter().enumerate() {
         lexer.scan_byte(*c, at)?;
     }
     lexer.flush(text.len())?;
     if lexer.quoted {
-        lexer.put(
-            false,
-            TokenKind::Unclosed { double: true },
-            Chain::empty(),
-            text.len(),
-        )?;
+        lexer.put(false, TokenKind::Unclosed(Quote::Double), text.len())?;
     }
     let Lexer { tokens, .. } = lexer;
     Ok(tokens)

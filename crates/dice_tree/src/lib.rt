@@ -5,4 +5,6 @@
 pub mod calm;
 mod lexer;
 pub mod parser;
+mod signs;
+pub mod stage;
 pub mod tree;

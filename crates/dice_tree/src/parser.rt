@@ -1,204 +1,240 @@
-//! From tokens to trees, by recursive descent. A chain is gathered by a loop and put into its table when it is whole;
-//! only lists in lists recurse, and `left` says how many levels of them may still come.
+//! From tokens to trees, by recursive descent. Only lists in lists recurse, and `left` says how many levels of them may
+//! still come.
 
-ghost use Rattle.std.specs.Prelude.{◌≤◌, T, length, OnOk};
+ghost use Rattle.std.specs.Prelude.{ℕ, ◌≡◌, ◌-◌, ◌≤◌, ◌<◌, T, length, OnOk, IsSome};
 
-use crate::lexer::{Token, TokenKind, digit, letter};
-use crate::tree::{Chain, Expected, Fault, NoText, RedirectKind, Table, Tree};
-use crate::{lexer, tree};
+use crate::lexer;
+use crate::lexer::{Token, TokenKind, begins_name, in_name};
+use crate::signs::{Keyword, Quote, Sign};
+use crate::tree::{
+    AndOr, Arm, Assignment, Command, CommandList, Compound, Expected, Fault, Item, Joined, Joiner,
+    NoText, Pipeline, Redirect, RedirectKind, Word, WordPart,
+};
 use std::alloc::Global;
+use std::marker::Model;
 
+/// A text has at most so many bytes.
 pub const MOST_BYTES: usize = 16384;
 
+/// Lists stand at most so deep in lists, the text's own counted.
 const LEVELS: u32 = 33;
 
 /// What stands at the next token, where a command may begin.
-#[derive(Clone, Copy)]
+#[derive(Clone, Copy, PartialEq, Eq, Debug)]
 enum Lookahead {
     End,
+    /// No command can begin here.
     Odd,
+    /// A part of a word, which is not reserved.
     Part,
-    Not,
-    Keyword,
-    If,
-    While,
-    For,
-    Case,
-    Brace,
-    Paren,
-    CloseParen,
-    Newline,
-    DoubleSemicolon,
-    OtherSign,
+    Keyword(Keyword),
+    Sign(Sign),
 }
 
-#[derive(Drop)]
-struct Parser {
-    tokens: Vec<Token>,
-    at: usize,
-    tree: Tree,
+/// What ends a command of a list: ; or the end of a line, or &, which puts it into the background.
+#[derive(Clone, Copy, PartialEq, Eq, Debug)]
+enum Terminator {
+    Plain,
+    Background,
+}
+
+/// Whether the last command of a list needs a terminator.
+#[derive(Clone, Copy, PartialEq, Eq, Debug)]
+enum Last {
+    Ended,
+    Open,
 }
 
 /// Names of variables and functions: letters, digits and _, no digit first, at most 32 bytes.
 pub fn valid_name(name: &[u8]) -> bool
     ensures { T result → length name.now ≤ 32 }
 {
-    let Some(first) = name.first() else {
-        return false;
+    match name.first() {
+        Some(first) => begins_name(*first) && name.iter().all(|c| in_name(*c)) && name.len() <= 32,
+        None => false,
+    }
+}
+
+/// The first word of a simple command is no reserved word.
+fn first_word_fits(word: &Word) -> bool {
+    match word.parts.as_slice() {
+        [
+            WordPart::Literal {
+                quoted: false,
+                bytes,
+            },
+        ] => Keyword::try_from(bytes.as_slice()).is_err(),
+        _ => true,
+    }
+}
+
+/// A sign that begins a redirection.
+fn redirect_kind(sign: Sign) -> Option<RedirectKind> {
+    match sign {
+        Sign::Less => Some(RedirectKind::Input),
+        Sign::Greater => Some(RedirectKind::Output),
+        Sign::DoubleGreater => Some(RedirectKind::Append),
+        Sign::DoubleLess => Some(RedirectKind::Here),
+        _ => None,
+    }
+}
+
+/// The list of one command.
+fn list_of(heap: Global, command: Command) -> Result<CommandList, Fault> {
+    let first = Pipeline {
+        negated: false,
+        commands: vec![in heap; command]?,
     };
-    for c in name {
-        if !letter(*c) && !digit(*c) {
-            return false;
-        }
-    }
-    letter(*first) && name.len() <= 32
+    let and_or = AndOr {
+        first,
+        rest: Vec::new(heap),
+    };
+    let item = Item {
+        and_or,
+        background: false,
+    };
+    Ok(vec![in heap; item]?)
 }
 
-/// What a word that stands alone is where a command may begin.
-fn keyword(word: &[u8]) -> Lookahead {
-    if word == b"if".as_slice() {
-        Lookahead::If
-    } else if word == b"while".as_slice() {
-        Lookahead::While
-    } else if word == b"for".as_slice() {
-        Lookahead::For
-    } else if word == b"case".as_slice() {
-        Lookahead::Case
-    } else if word == b"{".as_slice() {
-        Lookahead::Brace
-    } else if word == b"!".as_slice() {
-        Lookahead::Not
-    } else if closing_keyword(word) {
-        Lookahead::Keyword
-    } else {
-        Lookahead::Part
-    }
+/// The tokens that are left, and where the text ends.
+#[derive(Drop)]
+struct Parser<'t> {
+    heap: Global,
+    rest: &'t [Token<'t>],
+    end: usize,
 }
 
-/// The reserved words with which no command begins.
-fn closing_keyword(word: &[u8]) -> bool {
-    for known in [
-        "when", "then", "elif", "else", "fi", "do", "done", "in", "esac", "}",
-    ] {
-        if word == known.as_bytes() {
-            return true;
-        }
-    }
-    false
+/// How many tokens are left.
+impl<'t> Model for Parser<'t> {
+    ghost Value = { ℕ };
+
+    ghost view = { λ p. length p.rest.now };
 }
 
-fn reserved(word: &[u8]) -> bool {
-    !matches!(keyword(word), Lookahead::Part)
-}
-
-fn sign(sign: &[u8]) -> Lookahead {
-    if sign == b"(".as_slice() {
-        Lookahead::Paren
-    } else if sign == b")".as_slice() {
-        Lookahead::CloseParen
-    } else if sign == b"\n".as_slice() {
-        Lookahead::Newline
-    } else if sign == b";;".as_slice() {
-        Lookahead::DoubleSemicolon
-    } else {
-        Lookahead::OtherSign
-    }
-}
-
-impl Parser {
-    fn token(&self) -> Option<Token> {
-        self.tokens.get(self.at).copied()
-    }
-
-    fn advance(&mut self) {
-        self.at = self.at.saturating_add(1);
-    }
-
-    /// At least as many turns as a loop takes that goes on by a token in each.
-    fn turns(&self) -> usize {
-        self.tokens.len().saturating_add(1)
+impl<'t> Parser<'t> {
+    /// Goes on over the next token, if there is one.
+    fn advance(&mut self)
+        ensures { self.new ≡ self.old - 1 }
+    {
+        self.rest = self.rest.get(1..).unwrap_or(&[]);
     }
 
     /// The refusal of the next token. At a quote that is not closed its end is what was expected.
     fn refuse(&self, expected: Expected) -> Fault {
-        let Some(token) = self.token() else {
-            return Fault::NoText(NoText {
-                place: self.tree.text.len(),
+        match self.rest.first() {
+            None => Fault::NoText(NoText {
+                place: self.end,
                 expected,
-            });
-        };
-        let place = token.place;
-        match token.kind {
-            TokenKind::Unclosed { double } => {
-                let quote = if double { "\"" } else { "'" };
-                Fault::NoText(NoText {
+            }),
+            Some(
+                Token {
+                    kind: TokenKind::Unclosed(quote),
                     place,
-                    expected: Expected::ClosingQuote(quote),
-                })
-            }
-            _ => Fault::NoText(NoText { place, expected }),
+                    ..
+                },
+            ) => Fault::NoText(NoText {
+                place: *place,
+                expected: Expected::ClosingQuote(*quote),
+            }),
+            Some(token) => Fault::NoText(NoText {
+                place: token.place,
+                expected,
+            }),
         }
     }
 
-    fn joined_at(&self, at: usize) -> bool {
-        match self.tokens.get(at) {
-            Some(token) => token.joined,
-            None => false,
-        }
+    fn next_is_joined(&self) -> bool {
+        matches!(self.rest.first(), Some(Token { joined: true, .. }))
     }
 
     fn lookahead(&self) -> Lookahead {
-        let Some(token) = self.token() else {
-            return Lookahead::End;
-        };
-        if token.joined {
-            return Lookahead::Odd;
-        }
-        match token.kind {
-            TokenKind::Bare if self.joined_at(self.at.saturating_add(1)) => Lookahead::Part,
-            TokenKind::Bare => keyword(self.tree.bytes(token.bytes)),
-            TokenKind::Sign => sign(self.tree.bytes(token.bytes)),
-            TokenKind::Unclosed { .. } => Lookahead::Odd,
-            _ => Lookahead::Part,
+        match self.rest {
+            [] => Lookahead::End,
+            [Token { joined: true, .. }, ..] => Lookahead::Odd,
+            [
+                Token {
+                    kind: TokenKind::Bare(_),
+                    ..
+                },
+                Token { joined: true, .. },
+                ..
+            ] => Lookahead::Part,
+            [token, ..] => match token.kind {
+                TokenKind::Bare(word) => match Keyword::try_from(word) {
+                    Ok(keyword) => Lookahead::Keyword(keyword),
+                    Err(_) => Lookahead::Part,
+                },
+                TokenKind::Sign(sign) => Lookahead::Sign(sign),
+                TokenKind::Unclosed(_) => Lookahead::Odd,
+                TokenKind::Quoted(_) | TokenKind::Parameter { .. } | TokenKind::Open { .. } =>
+                    Lookahead::Part,
+            },
         }
     }
 
-    /// Goes on over a bare token with these bytes, if it is next.
-    fn take_keyword(&mut self, word: &str) -> bool {
-        let Some(token) = self.token() else {
-            return false;
-        };
-        let bare = matches!(token.kind, TokenKind::Bare) && !token.joined;
-        if bare && self.tree.bytes(token.bytes) == word.as_bytes() {
+    /// The bytes of the next token, if it is bare and begins a word.
+    fn bare(&self) -> Option<&'t [u8]>
+        ensures { IsSome result → 0 < self.now }
+    {
+        match self.rest.first()? {
+            Token {
+                joined: false,
+                kind: TokenKind::Bare(bytes),
+                ..
+            } => Some(bytes),
+            _ => None,
+        }
+    }
+
+    /// Goes on over a bare token that is this word, if it is next.
+    fn take_keyword(&mut self, keyword: Keyword) -> bool
+        ensures taken { T result → self.new < self.old }
+        ensures kept { self.new ≤ self.old }
+    {
+        let found = self
+            .bare()
+            .is_some_and(|word| Keyword::try_from(word) == Ok(keyword));
+        if found {
             self.advance();
-            return true;
         }
-        false
+        found
     }
 
-    fn expect_keyword(&mut self, word: &'static str) -> Result<(), Fault> {
-        if self.take_keyword(word) {
+    fn expect_keyword(&mut self, keyword: Keyword) -> Result<(), Fault>
+        ensures { OnOk result (self.new < self.old) }
+    {
+        if self.take_keyword(keyword) {
             Ok(())
         } else {
-            Err(self.refuse(Expected::Keyword(word)))
+            Err(self.refuse(Expected::Keyword(keyword)))
+        }
+    }
+
+    /// The next token, if it is a sign.
+    fn sign(&self) -> Option<Sign>
+        ensures { IsSome result → 0 < self.now }
+    {
+        match self.rest.first()?.kind {
+            TokenKind::Sign(sign) => Some(sign),
+            _ => None,
         }
     }
 
     /// Goes on over this sign, if it is next.
-    fn take_sign(&mut self, sign: &str) -> bool {
-        let Some(token) = self.token() else {
-            return false;
-        };
-        if matches!(token.kind, TokenKind::Sign)
-            && self.tree.bytes(token.bytes) == sign.as_bytes()
-        {
+    fn take_sign(&mut self, sign: Sign) -> bool
+        ensures taken { T result → self.new < self.old }
+        ensures kept { self.new ≤ self.old }
+    {
+        let found = self.sign() == Some(sign);
+        if found {
             self.advance();
-            return true;
         }
-        false
+        found
     }
 
-    fn expect_sign(&mut self, sign: &'static str) -> Result<(), Fault> {
+    fn expect_sign(&mut self, sign: Sign) -> Result<(), Fault>
+        ensures { OnOk result (self.new < self.old) }
+    {
         if self.take_sign(sign) {
             Ok(())
         } else {
@@ -207,34 +243,46 @@ impl Parser {
     }
 
     /// One ; or one end of a line.
-    fn expect_separator(&mut self) -> Result<(), Fault> {
-        if self.take_sign(";") || self.take_sign("\n") {
+    fn expect_separator(&mut self) -> Result<(), Fault>
+        ensures { OnOk result (self.new < self.old) }
+    {
+        if self.take_sign(Sign::Semicolon) || self.take_sign(Sign::EndOfLine) {
             Ok(())
         } else {
             Err(self.refuse(Expected::Separator))
         }
     }
 
-    /// What ends a command: true for &, which puts it into the background.
-    fn take_terminator(&mut self) -> Option<bool> {
-        if self.take_sign(";") || self.take_sign("\n") {
-            Some(false)
-        } else if self.take_sign("&") {
-            Some(true)
+    fn take_terminator(&mut self) -> Option<Terminator>
+        ensures taken { IsSome result → self.new < self.old }
+        ensures kept { self.new ≤ self.old }
+    {
+        if self.take_sign(Sign::Semicolon) || self.take_sign(Sign::EndOfLine) {
+            Some(Terminator::Plain)
+        } else if self.take_sign(Sign::Ampersand) {
+            Some(Terminator::Background)
         } else {
             None
         }
     }
 
-    fn take_redirect(&mut self) -> Option<RedirectKind> {
-        if self.take_sign("<") {
-            Some(RedirectKind::Input)
-        } else if self.take_sign(">") {
-            Some(RedirectKind::Output)
-        } else if self.take_sign(">>") {
-            Some(RedirectKind::Append)
-        } else if self.take_sign("<<") {
-            Some(RedirectKind::Here)
+    fn take_redirect(&mut self) -> Option<RedirectKind>
+        ensures taken { IsSome result → self.new < self.old }
+        ensures kept { self.new ≤ self.old }
+    {
+        let kind = redirect_kind(self.sign()?)?;
+        self.advance();
+        Some(kind)
+    }
+
+    fn take_joiner(&mut self) -> Option<Joiner>
+        ensures taken { IsSome result → self.new < self.old }
+        ensures kept { self.new ≤ self.old }
+    {
+        if self.take_sign(Sign::DoubleAmpersand) {
+            Some(Joiner::And)
+        } else if self.take_sign(Sign::DoubleBar) {
+            Some(Joiner::Or)
         } else {
             None
         }
@@ -242,529 +290,458 @@ impl Parser {
 
     /// Words go on until a sign.
     fn no_word(&self) -> bool {
-        match self.lookahead() {
-            Lookahead::End | Lookahead::Paren | Lookahead::CloseParen | Lookahead::Newline => true,
-            Lookahead::DoubleSemicolon | Lookahead::OtherSign => true,
-            _ => false,
-        }
+        matches!(self.lookahead(), Lookahead::End | Lookahead::Sign(_))
     }
 
     fn ends_list(&self) -> bool {
         match self.lookahead() {
-            Lookahead::End
-            | Lookahead::Keyword
-            | Lookahead::CloseParen
-            | Lookahead::DoubleSemicolon => true,
-            _ => false,
+            Lookahead::End => true,
+            Lookahead::Sign(sign) => matches!(sign, Sign::CloseParenthesis | Sign::DoubleSemicolon),
+            Lookahead::Keyword(keyword) => !keyword.begins_command(),
+            Lookahead::Odd | Lookahead::Part => false,
         }
     }
 
     /// The bytes of the next token before and behind its first =, if it is bare, begins a word, and has a name there.
-    fn assignment(&self) -> Option<(tree::Bytes, tree::Bytes)> {
-        let token = self.token()?;
-        if token.joined || !matches!(token.kind, TokenKind::Bare) {
-            return None;
-        }
-        let (name, value) = self.split_equals(token.bytes)?;
-        if valid_name(self.tree.bytes(name)) {
+    fn assignment(&self) -> Option<(&'t [u8], &'t [u8])>
+        ensures { IsSome result → 0 < self.now }
+    {
+        let mut halves = self.bare()?.splitn(2, |c| *c == b'=');
+        let name = halves.next()?;
+        let value = halves.next()?;
+        if valid_name(name) {
             Some((name, value))
         } else {
             None
         }
     }
 
-    fn split_equals(&self, bytes: tree::Bytes) -> Option<(tree::Bytes, tree::Bytes)> {
-        for at in bytes.from..bytes.to {
-            if self.tree.text.get(at).copied() == Some(b'=') {
-                return Some((
-                    Chain {
-                        from: bytes.from,
-                        to: at,
-                    },
-                    Chain {
-                        from: at + 1,
-                        to: bytes.to,
-                    },
-                ));
+    fn take_name(&mut self) -> Result<Vec<u8>, Fault>
+        ensures { OnOk result (self.new < self.old) }
+    {
+        match self.bare() {
+            Some(name) if valid_name(name) => {
+                self.advance();
+                Ok(name.to_vec(self.heap)?)
             }
+            _ => Err(self.refuse(Expected::Name)),
         }
-        None
-    }
-
-    /// The first word of a simple command is no reserved word.
-    fn first_word_fits(&self, word: tree::Word) -> bool {
-        let Some((first, rest)) = word.split_first() else {
-            return true;
-        };
-        match self.tree.parts.get(first) {
-            Some(
-                tree::WordPart::Literal {
-                    quoted: false,
-                    bytes,
-                },
-            ) => { !rest.is_empty() || !reserved(self.tree.bytes(*bytes)) }
-            _ => true,
-        }
-    }
-
-    fn take_name(&mut self) -> Result<tree::Bytes, Fault> {
-        let Some(token) = self.token() else {
-            return Err(self.refuse(Expected::Name));
-        };
-        let bare = matches!(token.kind, TokenKind::Bare) && !token.joined;
-        if !bare || !valid_name(self.tree.bytes(token.bytes)) {
-            return Err(self.refuse(Expected::Name));
-        }
-        self.advance();
-        Ok(token.bytes)
     }
 
     /// name ( begins a function.
     fn function_at(&self) -> bool {
-        let Some(token) = self.token() else {
-            return false;
-        };
-        let Some(next) = self.tokens.get(self.at.saturating_add(1)) else {
-            return false;
-        };
-        let paren = matches!(next.kind, TokenKind::Sign)
-            && self.tree.bytes(next.bytes) == b"(".as_slice();
-        matches!(token.kind, TokenKind::Bare) && paren
+        matches!(
+            self.rest,
+            [
+                Token {
+                    kind: TokenKind::Bare(_),
+                    ..
+                },
+                Token {
+                    kind: TokenKind::Sign(Sign::OpenParenthesis),
+                    ..
+                },
+                ..
+            ]
+        )
     }
-}
 
-/// A part of a word.
-#[cycle(parsing)]
-fn part(p: &mut Parser, left: u32) -> Result<tree::WordPart, Fault> {
-    let Some(token) = p.token() else {
-        return Err(p.refuse(Expected::Word));
-    };
-    let bytes = token.bytes;
-    let found = match token.kind {
-        TokenKind::Bare => tree::WordPart::Literal {
-            quoted: false,
-            bytes,
-        },
-        TokenKind::Quoted => tree::WordPart::Literal {
-            quoted: true,
-            bytes,
-        },
-        TokenKind::Parameter { quoted } => tree::WordPart::Parameter {
-            quoted,
-            name: bytes,
-        },
-        TokenKind::Open { quoted } => {
-            p.advance();
-            let inside = list(p, left, true)?;
-            p.expect_sign(")")?;
-            return Ok(tree::WordPart::Substitution {
+    /// A part of a word.
+    #[cycle(parsing)]
+    fn part(&mut self, left: u32) -> Result<WordPart, Fault>
+        ensures { OnOk result (self.new < self.old) }
+    {
+        let Some(token) = self.rest.first() else {
+            return Err(self.refuse(Expected::Word));
+        };
+        let part = match token.kind {
+            TokenKind::Bare(bytes) => WordPart::Literal {
+                quoted: false,
+                bytes: bytes.to_vec(self.heap)?,
+            },
+            TokenKind::Quoted(bytes) => WordPart::Literal {
+                quoted: true,
+                bytes: bytes.to_vec(self.heap)?,
+            },
+            TokenKind::Parameter { quoted, name } => WordPart::Parameter {
                 quoted,
-                list: inside,
+                name: name.to_vec(self.heap)?,
+            },
+            TokenKind::Open { quoted } => {
+                self.advance();
+                let list = self.list(left, Last::Open)?;
+                self.expect_sign(Sign::CloseParenthesis)?;
+                return Ok(WordPart::Substitution { quoted, list });
+            }
+            TokenKind::Sign(_) | TokenKind::Unclosed(_) => return Err(self.refuse(Expected::Word)),
+        };
+        self.advance();
+        Ok(part)
+    }
+
+    /// What is joined to what stands before it, behind the parts that were read before.
+    #[cycle(parsing)]
+    fn joined_parts(&mut self, left: u32, mut parts: Vec<WordPart>) -> Result<Word, Fault>
+        ensures { OnOk result (self.new ≤ self.old) }
+    {
+        while self.next_is_joined() {
+            parts.push(self.part(left)?)?;
+        }
+        Ok(Word { parts })
+    }
+
+    /// A word is what is joined together.
+    #[cycle(parsing)]
+    fn word(&mut self, left: u32) -> Result<Word, Fault>
+        ensures { OnOk result (self.new < self.old) }
+    {
+        if self.next_is_joined() {
+            return Err(self.refuse(Expected::Word));
+        }
+        let first = self.part(left)?;
+        let parts = vec![in self.heap; first]?;
+        self.joined_parts(left, parts)
+    }
+
+    /// Words up to a sign, behind those that were read before.
+    #[cycle(parsing)]
+    fn more_words(&mut self, left: u32, mut words: Vec<Word>) -> Result<Vec<Word>, Fault>
+        ensures { OnOk result (self.new ≤ self.old) }
+    {
+        while !self.no_word() {
+            words.push(self.word(left)?)?;
+        }
+        Ok(words)
+    }
+
+    /// name=word, each: the name and the = stand in one bare token, and what stands behind the = there is the value's
+    /// first part, if there is any of it.
+    #[cycle(parsing)]
+    fn assignments(&mut self, left: u32) -> Result<Vec<Assignment>, Fault>
+        ensures { OnOk result (self.new ≤ self.old) }
+    {
+        let mut assignments = Vec::new(self.heap);
+        while let Some((name, behind)) = self.assignment() {
+            self.advance();
+            let mut parts = Vec::new(self.heap);
+            if !behind.is_empty() {
+                parts.push(WordPart::Literal {
+                    quoted: false,
+                    bytes: behind.to_vec(self.heap)?,
+                })?;
+            }
+            assignments.push(Assignment {
+                name: name.to_vec(self.heap)?,
+                word: self.joined_parts(left, parts)?,
+            })?;
+        }
+        Ok(assignments)
+    }
+
+    #[cycle(parsing)]
+    fn redirects(&mut self, left: u32) -> Result<Vec<Redirect>, Fault>
+        ensures { OnOk result (self.new ≤ self.old) }
+    {
+        let mut redirects = Vec::new(self.heap);
+        while let Some(kind) = self.take_redirect() {
+            redirects.push(Redirect {
+                kind,
+                word: self.word(left)?,
+            })?;
+        }
+        Ok(redirects)
+    }
+
+    /// Assignments, words, redirections; words may only be missing where there are no redirections.
+    #[cycle(parsing)]
+    fn simple(&mut self, left: u32) -> Result<Command, Fault>
+        ensures { OnOk result (self.new ≤ self.old) }
+    {
+        let assignments = self.assignments(left)?;
+        if self.no_word() {
+            if assignments.is_empty() {
+                return Err(self.refuse(Expected::Command));
+            }
+            return Ok(Command::Simple {
+                assignments,
+                words: Vec::new(self.heap),
+                redirects: Vec::new(self.heap),
             });
         }
-        TokenKind::Sign | TokenKind::Unclosed { .. } => return Err(p.refuse(Expected::Word)),
-    };
-    p.advance();
-    Ok(found)
-}
-
-/// The rest of a word behind its first part: what is joined to it.
-#[cycle(parsing)]
-fn more(p: &mut Parser, left: u32, first: Option<tree::WordPart>) -> Result<tree::Word, Fault> {
-    let mark = p.tree.parts.mark();
-    if let Some(x) = first {
-        p.tree.parts.put(x)?;
-    }
-    for _ in 0..p.turns() {
-        if !p.joined_at(p.at) {
-            break;
+        let before = self.rest;
+        let first = self.word(left)?;
+        if !first_word_fits(&first) {
+            self.rest = before;
+            return Err(self.refuse(Expected::Command));
         }
-        let next = part(p, left)?;
-        p.tree.parts.put(next)?;
+        let words = self.more_words(left, vec![in self.heap; first]?)?;
+        let redirects = self.redirects(left)?;
+        Ok(Command::Simple {
+            assignments,
+            words,
+            redirects,
+        })
     }
-    p.tree.parts.close(mark)
-}
 
-/// A word is what is joined together.
-#[cycle(parsing)]
-fn word(p: &mut Parser, left: u32) -> Result<tree::Word, Fault> {
-    if p.joined_at(p.at) {
-        return Err(p.refuse(Expected::Word));
+    /// name() { list }
+    #[cycle(parsing)]
+    fn function(&mut self, left: u32) -> Result<Command, Fault>
+        ensures { OnOk result (self.new ≤ self.old) }
+    {
+        let name = self.take_name()?;
+        self.expect_sign(Sign::OpenParenthesis)?;
+        self.expect_sign(Sign::CloseParenthesis)?;
+        self.expect_keyword(Keyword::OpenBrace)?;
+        let body = self.list(left, Last::Ended)?;
+        self.expect_keyword(Keyword::CloseBrace)?;
+        Ok(Command::Function { name, body })
     }
-    let first = part(p, left)?;
-    more(p, left, Some(first))
-}
 
-/// Words up to a sign, behind those that were read before.
-#[cycle(parsing)]
-fn words(p: &mut Parser, left: u32, first: Option<tree::Word>) -> Result<tree::Words, Fault> {
-    let mark = p.tree.words.mark();
-    if let Some(x) = first {
-        p.tree.words.put(x)?;
+    /// if list then list, and what stands behind it
+    #[cycle(parsing)]
+    fn if_command(&mut self, left: u32) -> Result<Compound, Fault>
+        ensures { OnOk result (self.new ≤ self.old) }
+    {
+        self.expect_keyword(Keyword::If)?;
+        let condition = self.list(left, Last::Ended)?;
+        self.expect_keyword(Keyword::Then)?;
+        let then = self.list(left, Last::Ended)?;
+        let otherwise = self.else_part(left)?;
+        Ok(Compound::If {
+            condition,
+            then,
+            otherwise,
+        })
     }
-    for _ in 0..p.turns() {
-        if p.no_word() {
-            break;
+
+    /// fi, else list fi, or elif list then list and again an else part, one level deeper. An elif is an else whose list
+    /// is one if.
+    #[cycle(parsing)]
+    fn else_part(&mut self, left: u32) -> Result<Option<CommandList>, Fault>
+        ensures { OnOk result (self.new ≤ self.old) }
+    {
+        if left == 0 {
+            return Err(self.refuse(Expected::LessDepth));
         }
-        let next = word(p, left)?;
-        p.tree.words.put(next)?;
-    }
-    p.tree.words.close(mark)
-}
-
-/// name=word, each: the name and the = stand in one bare token, and what stands behind the = there is the value's first
-/// part, if there is any of it.
-#[cycle(parsing)]
-fn assignments(p: &mut Parser, left: u32) -> Result<tree::Assignments, Fault> {
-    let mark = p.tree.assignments.mark();
-    for _ in 0..p.turns() {
-        let Some((name, behind)) = p.assignment() else {
-            break;
+        if self.take_keyword(Keyword::Fi) {
+            return Ok(None);
+        }
+        if self.take_keyword(Keyword::Else) {
+            let otherwise = self.list(left, Last::Ended)?;
+            self.expect_keyword(Keyword::Fi)?;
+            return Ok(Some(otherwise));
+        }
+        if !self.take_keyword(Keyword::Elif) {
+            return Err(self.refuse(Expected::ElseOrFi));
+        }
+        let condition = self.list(left - 1, Last::Ended)?;
+        self.expect_keyword(Keyword::Then)?;
+        let then = self.list(left - 1, Last::Ended)?;
+        let otherwise = self.else_part(left - 1)?;
+        let compound = Compound::If {
+            condition,
+            then,
+            otherwise,
         };
-        p.advance();
-        let first = if behind.is_empty() {
-            None
-        } else {
-            Some(tree::WordPart::Literal {
-                quoted: false,
-                bytes: behind,
-            })
+        let inner = Command::Compound {
+            compound,
+            redirects: Vec::new(self.heap),
         };
-        let value = more(p, left, first)?;
-        p.tree
-            .assignments
-            .put(tree::Assignment { name, word: value })?;
+        Ok(Some(list_of(self.heap, inner)?))
     }
-    p.tree.assignments.close(mark)
-}
 
-#[cycle(parsing)]
-fn redirects(p: &mut Parser, left: u32) -> Result<tree::Redirects, Fault> {
-    let mark = p.tree.redirects.mark();
-    for _ in 0..p.turns() {
-        let Some(kind) = p.take_redirect() else {
-            break;
-        };
-        let target = word(p, left)?;
-        p.tree.redirects.put(tree::Redirect { kind, word: target })?;
+    /// while list do list done
+    #[cycle(parsing)]
+    fn while_command(&mut self, left: u32) -> Result<Compound, Fault>
+        ensures { OnOk result (self.new ≤ self.old) }
+    {
+        self.expect_keyword(Keyword::While)?;
+        let condition = self.list(left, Last::Ended)?;
+        let body = self.do_part(left)?;
+        Ok(Compound::While { condition, body })
     }
-    p.tree.redirects.close(mark)
-}
 
-/// Assignments, words, redirections; words may only be missing where there are no redirections.
-#[cycle(parsing)]
-fn simple(p: &mut Parser, left: u32) -> Result<tree::Command, Fault> {
-    let assigned = assignments(p, left)?;
-    if p.no_word() {
-        if assigned.is_empty() {
-            return Err(p.refuse(Expected::Command));
-        }
-        return Ok(tree::Command::Simple {
-            assignments: assigned,
-            words: Chain::empty(),
-            redirects: Chain::empty(),
-        });
+    /// do list done
+    #[cycle(parsing)]
+    fn do_part(&mut self, left: u32) -> Result<CommandList, Fault>
+        ensures { OnOk result (self.new ≤ self.old) }
+    {
+        self.expect_keyword(Keyword::Do)?;
+        let body = self.list(left, Last::Ended)?;
+        self.expect_keyword(Keyword::Done)?;
+        Ok(body)
     }
-    let before = p.at;
-    let first = word(p, left)?;
-    if !p.first_word_fits(first) {
-        p.at = before;
-        return Err(p.refuse(Expected::Command));
+
+    /// for name in words, one ; or one end of a line, do list done
+    #[cycle(parsing)]
+    fn for_command(&mut self, left: u32) -> Result<Compound, Fault>
+        ensures { OnOk result (self.new ≤ self.old) }
+    {
+        self.expect_keyword(Keyword::For)?;
+        let name = self.take_name()?;
+        self.expect_keyword(Keyword::In)?;
+        let words = self.more_words(left, Vec::new(self.heap))?;
+        self.expect_separator()?;
+        let body = self.do_part(left)?;
+        Ok(Compound::For { name, words, body })
     }
-    let all = words(p, left, Some(first))?;
-    let turned = redirects(p, left)?;
-    Ok(tree::Command::Simple {
-        assignments: assigned,
-        words: all,
-        redirects: turned,
-    })
-}
 
-/// name() { list }
-#[cycle(parsing)]
-fn function(p: &mut Parser, left: u32) -> Result<tree::Command, Fault> {
-    let name = p.take_name()?;
-    p.expect_sign("(")?;
-    p.expect_sign(")")?;
-    p.expect_keyword("{")?;
-    let body = list(p, left, false)?;
-    p.expect_keyword("}")?;
-    Ok(tree::Command::Function { name, body })
-}
-
-/// if list then list, and what stands behind it
-#[cycle(parsing)]
-fn if_command(p: &mut Parser, left: u32) -> Result<tree::Command, Fault> {
-    p.expect_keyword("if")?;
-    let condition = list(p, left, false)?;
-    p.expect_keyword("then")?;
-    let then = list(p, left, false)?;
-    let otherwise = else_part(p, left)?;
-    let turned = redirects(p, left)?;
-    Ok(tree::Command::If {
-        condition,
-        then,
-        otherwise,
-        redirects: turned,
-    })
-}
-
-/// fi, else list fi, or elif list then list and again an else part, one level deeper. An elif is an else whose list is
-/// one if.
-#[cycle(parsing)]
-fn else_part(p: &mut Parser, left: u32) -> Result<Option<tree::CommandList>, Fault> {
-    if left == 0 {
-        return Err(p.refuse(Expected::LessDepth));
-    }
-    if p.take_keyword("fi") {
-        return Ok(None);
-    }
-    if p.take_keyword("else") {
-        let otherwise = list(p, left, false)?;
-        p.expect_keyword("fi")?;
-        return Ok(Some(otherwise));
-    }
-    if !p.take_keyword("elif") {
-        return Err(p.refuse(Expected::ElseOrFi));
-    }
-    let condition = list(p, left - 1, false)?;
-    p.expect_keyword("then")?;
-    let then = list(p, left - 1, false)?;
-    let otherwise = else_part(p, left - 1)?;
-    let inner = tree::Command::If {
-        condition,
-        then,
-        otherwise,
-        redirects: Chain::empty(),
-    };
-    let alone = list_of(&mut p.tree, inner)?;
-    Ok(Some(alone))
-}
-
-/// The list of one command.
-fn list_of(tree: &mut Tree, command: tree::Command) -> Result<tree::CommandList, Fault> {
-    let mark = tree.commands.mark();
-    tree.commands.put(command)?;
-    let pipeline = tree.commands.close(mark)?;
-    let mark = tree.pipelines.mark();
-    tree.pipelines.put(tree::Joined {
-        and: true,
-        negated: false,
-        pipeline,
-    })?;
-    let and_or = tree.pipelines.close(mark)?;
-    let mark = tree.items.mark();
-    tree.items.put(tree::Item {
-        and_or,
-        background: false,
-    })?;
-    tree.items.close(mark)
-}
-
-/// while list do list done
-#[cycle(parsing)]
-fn while_command(p: &mut Parser, left: u32) -> Result<tree::Command, Fault> {
-    p.expect_keyword("while")?;
-    let condition = list(p, left, false)?;
-    p.expect_keyword("do")?;
-    let body = list(p, left, false)?;
-    p.expect_keyword("done")?;
-    let turned = redirects(p, left)?;
-    Ok(tree::Command::While {
-        condition,
-        body,
-        redirects: turned,
-    })
-}
-
-/// for name in words, one ; or one end of a line, do list done
-#[cycle(parsing)]
-fn for_command(p: &mut Parser, left: u32) -> Result<tree::Command, Fault> {
-    p.expect_keyword("for")?;
-    let name = p.take_name()?;
-    p.expect_keyword("in")?;
-    let all = words(p, left, None)?;
-    p.expect_separator()?;
-    p.expect_keyword("do")?;
-    let body = list(p, left, false)?;
-    p.expect_keyword("done")?;
-    let turned = redirects(p, left)?;
-    Ok(tree::Command::For {
-        name,
-        words: all,
-        body,
-        redirects: turned,
-    })
-}
-
-/// when word, one ; or one end of a line, a list, ;; and ends of lines between them
-#[cycle(parsing)]
-fn arms(p: &mut Parser, left: u32) -> Result<tree::Arms, Fault> {
-    let mark = p.tree.arms.mark();
-    for _ in 0..p.turns() {
-        if p.take_sign("\n") {
-            continue;
-        }
-        if !p.take_keyword("when") {
-            break;
-        }
-        let pattern = word(p, left)?;
-        p.expect_separator()?;
-        let body = list(p, left, true)?;
-        p.expect_sign(";;")?;
-        p.tree.arms.put(tree::Arm {
-            pattern,
-            list: body,
-        })?;
-    }
-    p.tree.arms.close(mark)
-}
-
-/// case word in arms esac
-#[cycle(parsing)]
-fn case_command(p: &mut Parser, left: u32) -> Result<tree::Command, Fault> {
-    p.expect_keyword("case")?;
-    let subject = word(p, left)?;
-    p.expect_keyword("in")?;
-    let all = arms(p, left)?;
-    p.expect_keyword("esac")?;
-    let turned = redirects(p, left)?;
-    Ok(tree::Command::Case {
-        word: subject,
-        arms: all,
-        redirects: turned,
-    })
-}
-
-/// { list }
-#[cycle(parsing)]
-fn group(p: &mut Parser, left: u32) -> Result<tree::Command, Fault> {
-    p.expect_keyword("{")?;
-    let inside = list(p, left, false)?;
-    p.expect_keyword("}")?;
-    let turned = redirects(p, left)?;
-    Ok(tree::Command::Group {
-        list: inside,
-        redirects: turned,
-    })
-}
-
-/// ( list )
-#[cycle(parsing)]
-fn subshell(p: &mut Parser, left: u32) -> Result<tree::Command, Fault> {
-    p.expect_sign("(")?;
-    let inside = list(p, left, true)?;
-    p.expect_sign(")")?;
-    let turned = redirects(p, left)?;
-    Ok(tree::Command::Subshell {
-        list: inside,
-        redirects: turned,
-    })
-}
-
-#[cycle(parsing)]
-fn command(p: &mut Parser, left: u32) -> Result<tree::Command, Fault> {
-    match p.lookahead() {
-        Lookahead::Part if p.function_at() => function(p, left),
-        Lookahead::Part => simple(p, left),
-        Lookahead::If => if_command(p, left),
-        Lookahead::While => while_command(p, left),
-        Lookahead::For => for_command(p, left),
-        Lookahead::Case => case_command(p, left),
-        Lookahead::Brace => group(p, left),
-        Lookahead::Paren => subshell(p, left),
-        _ => Err(p.refuse(Expected::Command)),
-    }
-}
-
-/// Commands with | between them.
-#[cycle(parsing)]
-fn pipeline(p: &mut Parser, left: u32) -> Result<tree::Pipeline, Fault> {
-    let mark = p.tree.commands.mark();
-    for _ in 0..p.turns() {
-        let next = command(p, left)?;
-        p.tree.commands.put(next)?;
-        if !p.take_sign("|") {
-            break;
-        }
-    }
-    p.tree.commands.close(mark)
-}
-
-/// Pipelines, each with or without ! before it, joined by && and ||.
-#[cycle(parsing)]
-fn and_or(p: &mut Parser, left: u32) -> Result<tree::AndOr, Fault> {
-    let mark = p.tree.pipelines.mark();
-    let mut and = true;
-    for _ in 0..p.turns() {
-        let negated = matches!(p.lookahead(), Lookahead::Not);
-        if negated {
-            p.advance();
-        }
-        let next = pipeline(p, left)?;
-        p.tree.pipelines.put(tree::Joined {
-            and,
-            negated,
-            pipeline: next,
-        })?;
-        and = p.take_sign("&&");
-        if !and && !p.take_sign("||") {
-            break;
-        }
-    }
-    p.tree.pipelines.close(mark)
-}
-
-/// Commands, each with ; & or the end of a line behind it; if the list is `open`, the last needs none.
-#[cycle(parsing)]
-fn list(p: &mut Parser, left: u32, open: bool) -> Result<tree::CommandList, Fault> {
-    if left == 0 {
-        return Err(p.refuse(Expected::LessDepth));
-    }
-    let mark = p.tree.items.mark();
-    for _ in 0..p.turns() {
-        if p.ends_list() {
-            break;
-        }
-        if p.take_sign("\n") {
-            continue;
-        }
-        let next = and_or(p, left - 1)?;
-        let Some(background) = p.take_terminator() else {
-            if !open {
-                return Err(p.refuse(Expected::Terminator));
+    /// when word, one ; or one end of a line, a list, ;; and ends of lines between them
+    #[cycle(parsing)]
+    fn arms(&mut self, left: u32) -> Result<Vec<Arm>, Fault>
+        ensures { OnOk result (self.new ≤ self.old) }
+    {
+        let mut arms = Vec::new(self.heap);
+        loop {
+            if self.take_sign(Sign::EndOfLine) {
+                continue;
             }
-            p.tree.items.put(tree::Item {
-                and_or: next,
-                background: false,
-            })?;
-            break;
-        };
-        p.tree.items.put(tree::Item {
-            and_or: next,
-            background,
-        })?;
+            if !self.take_keyword(Keyword::When) {
+                return Ok(arms);
+            }
+            let pattern = self.word(left)?;
+            self.expect_separator()?;
+            let list = self.list(left, Last::Open)?;
+            self.expect_sign(Sign::DoubleSemicolon)?;
+            arms.push(Arm { pattern, list })?;
+        }
     }
-    p.tree.items.close(mark)
-}
 
-fn empty_tree(heap: Global, text: Vec<u8>) -> Tree {
-    Tree {
-        text,
-        parts: Table::new(heap),
-        words: Table::new(heap),
-        assignments: Table::new(heap),
-        redirects: Table::new(heap),
-        arms: Table::new(heap),
-        commands: Table::new(heap),
-        pipelines: Table::new(heap),
-        items: Table::new(heap),
-        root: Chain::empty(),
+    /// case word in arms esac
+    #[cycle(parsing)]
+    fn case_command(&mut self, left: u32) -> Result<Compound, Fault>
+        ensures { OnOk result (self.new ≤ self.old) }
+    {
+        self.expect_keyword(Keyword::Case)?;
+        let word = self.word(left)?;
+        self.expect_keyword(Keyword::In)?;
+        let arms = self.arms(left)?;
+        self.expect_keyword(Keyword::Esac)?;
+        Ok(Compound::Case { word, arms })
+    }
+
+    /// { list }
+    #[cycle(parsing)]
+    fn group(&mut self, left: u32) -> Result<Compound, Fault>
+        ensures { OnOk result (self.new ≤ self.old) }
+    {
+        self.expect_keyword(Keyword::OpenBrace)?;
+        let list = self.list(left, Last::Ended)?;
+        self.expect_keyword(Keyword::CloseBrace)?;
+        Ok(Compound::Group(list))
+    }
+
+    /// ( list )
+    #[cycle(parsing)]
+    fn subshell(&mut self, left: u32) -> Result<Compound, Fault>
+        ensures { OnOk result (self.new ≤ self.old) }
+    {
+        self.expect_sign(Sign::OpenParenthesis)?;
+        let list = self.list(left, Last::Open)?;
+        self.expect_sign(Sign::CloseParenthesis)?;
+        Ok(Compound::Subshell(list))
+    }
+
+    /// A command that begins with a reserved word or (.
+    #[cycle(parsing)]
+    fn compound(&mut self, left: u32) -> Result<Compound, Fault>
+        ensures { OnOk result (self.new ≤ self.old) }
+    {
+        match self.lookahead() {
+            Lookahead::Keyword(Keyword::If) => self.if_command(left),
+            Lookahead::Keyword(Keyword::While) => self.while_command(left),
+            Lookahead::Keyword(Keyword::For) => self.for_command(left),
+            Lookahead::Keyword(Keyword::Case) => self.case_command(left),
+            Lookahead::Keyword(Keyword::OpenBrace) => self.group(left),
+            Lookahead::Sign(Sign::OpenParenthesis) => self.subshell(left),
+            _ => Err(self.refuse(Expected::Command)),
+        }
+    }
+
+    #[cycle(parsing)]
+    fn command(&mut self, left: u32) -> Result<Command, Fault>
+        ensures { OnOk result (self.new ≤ self.old) }
+    {
+        if self.lookahead() != Lookahead::Part {
+            let compound = self.compound(left)?;
+            let redirects = self.redirects(left)?;
+            return Ok(Command::Compound {
+                compound,
+                redirects,
+            });
+        }
+        if self.function_at() {
+            self.function(left)
+        } else {
+            self.simple(left)
+        }
+    }
+
+    /// Commands with | between them, with or without ! before the first.
+    #[cycle(parsing)]
+    fn pipeline(&mut self, left: u32) -> Result<Pipeline, Fault>
+        ensures { OnOk result (self.new ≤ self.old) }
+    {
+        let negated = self.lookahead() == Lookahead::Keyword(Keyword::Not);
+        if negated {
+            self.advance();
+        }
+        let first = self.command(left)?;
+        let mut commands = vec![in self.heap; first]?;
+        while self.take_sign(Sign::Bar) {
+            commands.push(self.command(left)?)?;
+        }
+        Ok(Pipeline { negated, commands })
+    }
+
+    /// Pipelines joined by && and ||.
+    #[cycle(parsing)]
+    fn and_or(&mut self, left: u32) -> Result<AndOr, Fault>
+        ensures { OnOk result (self.new ≤ self.old) }
+    {
+        let first = self.pipeline(left)?;
+        let mut rest = Vec::new(self.heap);
+        while let Some(joiner) = self.take_joiner() {
+            rest.push(Joined {
+                joiner,
+                pipeline: self.pipeline(left)?,
+            })?;
+        }
+        Ok(AndOr { first, rest })
+    }
+
+    /// Commands, each with ; & or the end of a line behind it.
+    #[cycle(parsing)]
+    fn list(&mut self, left: u32, last: Last) -> Result<CommandList, Fault>
+        ensures { OnOk result (self.new ≤ self.old) }
+    {
+        if left == 0 {
+            return Err(self.refuse(Expected::LessDepth));
+        }
+        let mut list = Vec::new(self.heap);
+        while !self.ends_list() {
+            if self.take_sign(Sign::EndOfLine) {
+                continue;
+            }
+            let and_or = self.and_or(left - 1)?;
+            let terminator = self.take_terminator();
+            if terminator.is_none() && last == Last::Ended {
+                return Err(self.refuse(Expected::Terminator));
+            }
+            list.push(Item {
+                and_or,
+                background: terminator == Some(Terminator::Background),
+            })?;
+            if terminator.is_none() {
+                break;
+            }
+        }
+        Ok(list)
     }
 }
 
 /// The tree of a text, which has at most so many bytes.
-pub fn parse(heap: Global, text: &[u8]) -> Result<Tree, Fault>
+pub fn parse(heap: Global, text: &[u8]) -> Result<CommandList, Fault>
     ensures { OnOk result (length text.now ≤ 16384) }
 {
     if text.len() > MOST_BYTES {
@@ -774,17 +751,15 @@ pub fn parse(heap: Global, text: &[u8]) -> Result<Tree, Fault>
         }));
     }
     let tokens = lexer::tokens(heap, text)?;
-    let tree = empty_tree(heap, text.to_vec(heap)?);
-    let mut p = Parser {
-        tokens,
-        at: 0,
-        tree,
+    let mut parser = Parser {
+        heap,
+        rest: &tokens,
+        end: text.len(),
     };
-    let root = list(&mut p, LEVELS, true)?;
-    if p.token().is_some() {
-        return Err(p.refuse(Expected::EndOfText));
+    let list = parser.list(LEVELS, Last::Open)?;
+    if parser.rest.is_empty() {
+        Ok(list)
+    } else {
+        Err(parser.refuse(Expected::EndOfText))
     }
-    let Parser { mut tree, .. } = p;
-    tree.root = root;
-    Ok(tree)
 }

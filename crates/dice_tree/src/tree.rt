@@ -1,103 +1,39 @@
-//! Command trees. A tree is a set of tables; what follows one another in a text, as the words of a command, are
-//! consecutive elements of one table, a chain. So the largest trees are walked by loops, and every node is small.
+//! Command trees, which own what is in them, and what is lent of them to who walks them: slices.
 
-ghost use Rattle.std.specs.Prelude.{◌≡◌, ◌+◌, ◌<◌, ◌≤◌, MatchOption};
+ghost use Rattle.dice_tree.specs.declared.tree.AndOr.{out-AndOr};
+ghost use Rattle.std.specs.List.{IsFirstAndRest, IsLastAndRest};
+ghost use Rattle.std.specs.Prelude.{◌≡◌, ◌≤◌, drop, length, MatchOption};
 
-use std::alloc::{AllocError, AllocFailed, Global};
+use crate::signs::{Keyword, Quote, Sign};
+use std::alloc::{AllocError, AllocFailed};
 use std::fmt;
 
-/// Consecutive elements of a table: the indices from `from` up to `to`, which is not one of them.
-#[derive(Clone, Copy)]
-pub struct Chain {
-    pub from: usize,
-    pub to: usize,
-}
-
-impl Chain {
-    pub fn empty() -> Chain
-        ensures { result.to ≤ result.from }
-    {
-        Chain { from: 0, to: 0 }
-    }
-
-    pub fn is_empty(self) -> bool {
-        self.from >= self.to
-    }
-
-    /// The first index and what follows it.
-    pub fn split_first(self) -> Option<(usize, Chain)>
-        ensures { MatchOption result (self.to ≤ self.from) (λ p. (p.0 ≡ self.from) × (p.1.from ≡ self.from + 1) × (p.1.to ≡ self.to)) }
-    {
-        if self.from >= self.to {
-            return None;
-        }
-        Some((
-            self.from,
-            Chain {
-                from: self.from + 1,
-                to: self.to,
-            },
-        ))
-    }
-
-    /// The last index and what stands before it.
-    pub fn split_last(self) -> Option<(usize, Chain)>
-        ensures { MatchOption result (self.to ≤ self.from) (λ p. (p.0 + 1 ≡ self.to) × (p.1.from ≡ self.from) × (p.1.to ≡ p.0)) }
-    {
-        if self.from >= self.to {
-            return None;
-        }
-        let last = self.to - 1;
-        Some((
-            last,
-            Chain {
-                from: self.from,
-                to: last,
-            },
-        ))
-    }
-
-    pub fn len(self) -> usize {
-        self.to.saturating_sub(self.from)
-    }
-}
-
-/// Bytes of the text.
-pub type Bytes = Chain;
-/// The parts of a word, that stand without a blank between them.
-pub type Word = Chain;
-
-pub type Words = Chain;
-
-pub type Assignments = Chain;
-
-pub type Redirects = Chain;
-
-pub type Arms = Chain;
-/// Commands with | between them.
-pub type Pipeline = Chain;
-/// Pipelines joined by && and ||, from the left.
-pub type AndOr = Chain;
-
-pub type CommandList = Chain;
-
 /// A part of a word: bytes; what a parameter stands for; what a list of commands prints, $( ).
-#[derive(Clone, Copy)]
+#[cycle(tree)]
+#[derive(Drop)]
 pub enum WordPart {
-    Literal { quoted: bool, bytes: Bytes },
-    Parameter { quoted: bool, name: Bytes },
+    Literal { quoted: bool, bytes: Vec<u8> },
+    Parameter { quoted: bool, name: Vec<u8> },
     Substitution { quoted: bool, list: CommandList },
 }
 
+/// Parts without a blank between them.
+#[cycle(tree)]
+#[derive(Drop)]
+pub struct Word {
+    pub parts: Vec<WordPart>,
+}
+
 /// name=word
-#[derive(Clone, Copy)]
+#[cycle(tree)]
+#[derive(Drop)]
 pub struct Assignment {
-    pub name: Bytes,
+    pub name: Vec<u8>,
     pub word: Word,
 }
 
 /// < reads a file, > writes a file that is empty first, >> writes behind what is there, << reads the word itself.
-#[derive(Clone, Copy)]
+#[derive(Clone, Copy, PartialEq, Eq, Debug)]
 pub enum RedirectKind {
     Input,
     Output,
@@ -105,160 +41,174 @@ pub enum RedirectKind {
     Here,
 }
 
-#[derive(Clone, Copy)]
+#[cycle(tree)]
+#[derive(Drop)]
 pub struct Redirect {
     pub kind: RedirectKind,
     pub word: Word,
 }
 
-#[derive(Clone, Copy)]
+#[cycle(tree)]
+#[derive(Drop)]
 pub enum Command {
     Simple {
-        assignments: Assignments,
-        words: Words,
-        redirects: Redirects,
+        assignments: Vec<Assignment>,
+        words: Vec<Word>,
+        redirects: Vec<Redirect>,
     },
-    Group {
-        list: CommandList,
-        redirects: Redirects,
-    },
-    Subshell {
-        list: CommandList,
-        redirects: Redirects,
-    },
-    If {
-        condition: CommandList,
-        then: CommandList,
-        otherwise: Option<CommandList>,
-        redirects: Redirects,
-    },
-    While {
-        condition: CommandList,
-        body: CommandList,
-        redirects: Redirects,
-    },
-    For {
-        name: Bytes,
-        words: Words,
-        body: CommandList,
-        redirects: Redirects,
-    },
-    Case {
-        word: Word,
-        arms: Arms,
-        redirects: Redirects,
+    Compound {
+        compound: Compound,
+        redirects: Vec<Redirect>,
     },
     Function {
-        name: Bytes,
+        name: Vec<u8>,
         body: CommandList,
     },
 }
 
+/// A command that is made of lists.
+#[cycle(tree)]
+#[derive(Drop)]
+pub enum Compound {
+    Group(CommandList),
+    Subshell(CommandList),
+    If {
+        condition: CommandList,
+        then: CommandList,
+        otherwise: Option<CommandList>,
+    },
+    While {
+        condition: CommandList,
+        body: CommandList,
+    },
+    For {
+        name: Vec<u8>,
+        words: Vec<Word>,
+        body: CommandList,
+    },
+    Case {
+        word: Word,
+        arms: Vec<Arm>,
+    },
+}
+
 /// when pattern ; list ;;
-#[derive(Clone, Copy)]
+#[cycle(tree)]
+#[derive(Drop)]
 pub struct Arm {
     pub pattern: Word,
     pub list: CommandList,
 }
 
-/// A pipeline with the ! before it; `and` says whether && or || joins it to those on its left.
-#[derive(Clone, Copy)]
-pub struct Joined {
-    pub and: bool,
+/// Commands with | between them, with or without ! before the first.
+#[cycle(tree)]
+#[derive(Drop)]
+pub struct Pipeline {
     pub negated: bool,
+    pub commands: Vec<Command>,
+}
+
+/// && or ||
+#[derive(Clone, Copy, PartialEq, Eq, Debug)]
+pub enum Joiner {
+    And,
+    Or,
+}
+
+/// A pipeline, and what joins it to those on its left.
+#[cycle(tree)]
+#[derive(Drop)]
+pub struct Joined {
+    pub joiner: Joiner,
     pub pipeline: Pipeline,
 }
 
+/// Pipelines joined by && and ||, from the left.
+#[cycle(tree)]
+#[derive(Drop)]
+pub struct AndOr {
+    pub first: Pipeline,
+    pub rest: Vec<Joined>,
+}
+
 /// One of the commands of a list; `background` says whether & stands behind it.
-#[derive(Clone, Copy)]
+#[cycle(tree)]
+#[derive(Drop)]
 pub struct Item {
     pub and_or: AndOr,
     pub background: bool,
 }
 
-#[derive(Drop)]
-pub struct Tree {
-    pub text: Vec<u8>,
-    pub parts: Table<WordPart>,
-    pub words: Table<Word>,
-    pub assignments: Table<Assignment>,
-    pub redirects: Table<Redirect>,
-    pub arms: Table<Arm>,
-    pub commands: Table<Command>,
-    pub pipelines: Table<Joined>,
-    pub items: Table<Item>,
-    pub root: CommandList,
+pub type CommandList = Vec<Item>;
+
+/// Pipelines joined by && and ||: the first, and some of those behind it.
+#[derive(Clone, Copy)]
+pub struct Joins<'t> {
+    pub first: &'t Pipeline,
+    pub rest: &'t [Joined],
 }
 
-impl Tree {
-    /// The bytes of a chain of the text.
-    pub fn bytes(&self, chain: Bytes) -> &[u8] {
-        match self.text.as_slice().get(chain.from..chain.to) {
-            Some(bytes) => bytes,
-            None => &[],
+impl AndOr {
+    /// All its pipelines.
+    pub fn joins(&self) -> Joins<'_>
+        ensures { (result.first.now ≡ (out-AndOr self.now).first) × (result.rest.now ≡ (out-AndOr self.now).rest.items) }
+    {
+        Joins {
+            first: &self.first,
+            rest: &self.rest,
         }
     }
 }
 
-/// A table of chains, and the elements of those that are not whole yet. Chains that are begun later are whole earlier.
-#[derive(Drop)]
-pub struct Table<T> {
-    whole: Vec<T>,
-    open: Vec<T>,
+impl<'t> Joins<'t> {
+    /// The last pipeline, and what stands on its left.
+    pub fn split_last(self) -> Option<(&'t Joined, Joins<'t>)>
+        ensures { MatchOption result (length self.entry.rest.now ≡ 0)
+            (λ p. IsLastAndRest self.entry.rest.now p.0.now p.1.rest.now × (p.1.first.now ≡ self.entry.first.now)) }
+    {
+        let (last, rest) = self.rest.split_last()?;
+        Some((last, Joins { rest, ..self }))
+    }
 }
 
-impl<T: Copy> Table<T> {
-    pub fn new(heap: Global) -> Table<T> {
-        Table {
-            whole: Vec::new(heap),
-            open: Vec::new(heap),
-        }
+/// Words that are still to be expanded: what is to come of the word at work, and the words behind it.
+#[derive(Clone, Copy)]
+pub struct Unexpanded<'t> {
+    pub parts: &'t [WordPart],
+    pub words: &'t [Word],
+}
+
+impl<'t> Unexpanded<'t> {
+    /// The next part of the word at work, and what comes behind it.
+    pub fn split_first(self) -> Option<(&'t WordPart, Unexpanded<'t>)>
+        ensures { MatchOption result (length self.entry.parts.now ≡ 0)
+            (λ p. IsFirstAndRest self.entry.parts.now p.0.now p.1.parts.now × (p.1.words.now ≡ self.entry.words.now)) }
+    {
+        let (first, parts) = self.parts.split_first()?;
+        Some((first, Unexpanded { parts, ..self }))
     }
 
-    pub fn get(&self, i: usize) -> Option<&T> {
-        self.whole.get(i)
-    }
-
-    pub fn all(&self) -> &[T] {
-        self.whole.as_slice()
-    }
-
-    /// Where a chain begins that is not whole yet.
-    pub fn mark(&self) -> usize {
-        self.open.len()
-    }
-
-    /// One element more of the chain that was begun last.
-    pub fn put(&mut self, x: T) -> Result<(), Fault> {
-        self.open.push(x)?;
-        Ok(())
-    }
-
-    /// The chain that was begun at the mark is whole: where it stands.
-    pub fn close(&mut self, mark: usize) -> Result<Chain, Fault> {
-        let from = self.whole.len();
-        for i in mark..self.open.len() {
-            if let Some(x) = self.open.get(i).copied() {
-                self.whole.push(x)?;
-            }
-        }
-        self.open.truncate(mark);
-        Ok(Chain {
-            from,
-            to: self.whole.len(),
+    /// The next word is at work.
+    pub fn next_word(self) -> Option<Unexpanded<'t>>
+        ensures { MatchOption result (length self.entry.words.now ≡ 0) (λ u. u.words.now ≡ drop 1 self.entry.words.now) }
+    {
+        let (first, words) = self.words.split_first()?;
+        Some(Unexpanded {
+            parts: &first.parts,
+            words,
         })
     }
 }
 
 /// What was expected where reading stopped.
-#[derive(Clone, Copy)]
+#[derive(Clone, Copy, PartialEq, Eq, Debug)]
 pub enum Expected {
     Command,
     Word,
     Name,
-    Keyword(&'static str),
-    Sign(&'static str),
-    ClosingQuote(&'static str),
+    Keyword(Keyword),
+    Sign(Sign),
+    ClosingQuote(Quote),
     Separator,
     Terminator,
     ElseOrFi,
@@ -285,7 +235,7 @@ impl fmt::Display for Expected {
 }
 
 /// A text that is no list of commands: the byte at which reading stopped, and what was expected there.
-#[derive(Clone, Copy)]
+#[derive(Clone, Copy, PartialEq, Eq, Debug)]
 pub struct NoText {
     pub place: usize,
     pub expected: Expected,
@@ -295,20 +245,13 @@ pub struct NoText {
 pub fn line_and_column(text: &[u8], place: usize) -> (usize, usize)
     ensures { (1 ≤ result.0) × (1 ≤ result.1) }
 {
-    let mut line = 1usize;
-    let mut column = 1usize;
-    for c in text.iter().take(place) {
-        if *c == b'\n' {
-            line = line.saturating_add(1);
-            column = 1;
-        } else {
-            column = column.saturating_add(1);
-        }
-    }
+    let before = text.get(..place).unwrap_or(text);
+    let line = before.iter().filter(|c| **c == b'\n').count() + 1;
+    let column = before.iter().rev().take_while(|c| **c != b'\n').count() + 1;
     (line, column)
 }
 
-#[derive(Drop)]
+#[derive(Debug, Drop)]
 pub enum Fault {
     NoText(NoText),
     Memory,
