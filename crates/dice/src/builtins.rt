@@ -28,6 +28,13 @@ pub enum Progress {
     Waits,
 }
 
+impl Progress {
+    /// It is done, with this status, and prints nothing more.
+    fn ends(status: u32) -> Progress {
+        Progress::Ends { line: None, status }
+    }
+}
+
 /// The first word, or a default.
 fn first_or(
     heap: Global,
@@ -242,18 +249,21 @@ impl<'t> Runner<'t> {
         }
     }
 
-    /// cat stops at the first file that isn't there, with status 1.
+    /// cat opens its next file. It stops at the first that isn't there, with status 1.
     fn open_next(
         &mut self,
         names: &mut VecDeque<Vec<u8>>,
-    ) -> Result<Result<HandleId, u32>, AllocError> {
+        handle: &mut Option<HandleId>,
+    ) -> Result<Progress, AllocError> {
         let Some(name) = names.pop_front() else {
-            return Ok(Err(SUCCESS));
+            return Ok(Progress::ends(SUCCESS));
         };
         if !self.system.has_file(&name) {
-            return Ok(Err(FAILURE));
+            return Ok(Progress::ends(FAILURE));
         }
-        Ok(Ok(self.system.open(Handle::FileRead(FileReader::new(name)))?))
+        let file = Handle::FileRead(FileReader::new(name));
+        *handle = Some(self.system.open(file)?);
+        Ok(Progress::Works)
     }
 
     fn step_cat(
@@ -263,13 +273,7 @@ impl<'t> Runner<'t> {
         handle: &mut Option<HandleId>,
     ) -> Result<Progress, AllocError> {
         let Some(open) = *handle else {
-            return match self.open_next(names)? {
-                Ok(next) => {
-                    *handle = Some(next);
-                    Ok(Progress::Works)
-                }
-                Err(status) => Ok(Progress::Ends { line: None, status }),
-            };
+            return self.open_next(names, handle);
         };
         match self.read_byte(process, open) {
             ReadByte::Got(byte) => Ok(Progress::Prints(vec![in self.system.heap; byte]?)),
@@ -336,7 +340,7 @@ impl<'t> Runner<'t> {
         match self.read_byte(process, process.streams.stdin) {
             ReadByte::Got(b'\n') => {
                 let has = contains(pattern, line);
-                *found = *found || has;
+                *found |= has;
                 let line = std::mem::replace(line, Vec::new(self.system.heap));
                 if has {
                     Ok(Progress::Prints(as_line(line)?))

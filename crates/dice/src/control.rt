@@ -1,6 +1,7 @@
 //! What a process does next, and what it does after that.
 
 use crate::system::{HandleId, PipeEnd, Streams, System};
+use crate::text::SUCCESS;
 use crate::words::{Values, WordBuilder};
 use dice_tree::tree::{
     Arm, Assignment, Command, Compound, Item, Joined, Joins, Pipeline, Redirect, RedirectKind,
@@ -170,7 +171,7 @@ pub enum Unwind {
 impl Unwind {
     pub fn status(self) -> u32 {
         match self {
-            Unwind::Break | Unwind::Continue => 0,
+            Unwind::Break | Unwind::Continue => SUCCESS,
             Unwind::Return(status) | Unwind::Exit(status) => status,
         }
     }

@@ -24,7 +24,7 @@ impl<'t> Environment<'t> {
             variables: BTreeMap::new(heap),
             functions: BTreeMap::new(heap),
             arguments: VecDeque::new(heap),
-            status: 0,
+            status: SUCCESS,
         }
     }
 

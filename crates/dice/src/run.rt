@@ -4,6 +4,7 @@ ghost use Rattle.std.specs.Prelude.{◌≤◌, IfOk};
 
 use crate::control::Pid;
 use crate::runner::{Runner, Turn};
+use crate::text::SUCCESS;
 use dice_tree::tree::Item;
 use prng::Dice;
 use std::alloc::{AllocError, Global};
@@ -39,7 +40,7 @@ fn make_moves(runner: &mut Runner<'_>, dice: &mut Dice, most: u64) -> Result<u64
 /// How the run came out after so many of these moves.
 fn outcome_of(runner: &Runner<'_>, moves: u64, most: u64) -> Outcome {
     if runner.processes.is_empty() {
-        Outcome::Ended(runner.exited.get(&Pid(0)).copied().unwrap_or(0))
+        Outcome::Ended(runner.exited.get(&Pid(0)).copied().unwrap_or(SUCCESS))
     } else if moves < most {
         Outcome::Still
     } else {

@@ -3,6 +3,7 @@
 use crate::control::{Control, Pid, Step};
 use crate::process::{Environment, Process};
 use crate::system::{HandleId, PipeEnd, Streams, System, WriteByte};
+use crate::text::SUCCESS;
 use dice_tree::tree::Item;
 use prng::Dice;
 use std::alloc::{AllocError, Global};
@@ -105,7 +106,7 @@ impl<'t> Runner<'t> {
             return Ok(Turn::Stuck);
         }
         let mut process = self.processes.remove(i);
-        let control = std::mem::replace(&mut process.control, Control::Status(0));
+        let control = std::mem::replace(&mut process.control, Control::Status(SUCCESS));
         let (control, turn) = match self.step(&mut process, control)? {
             Step::GoesTo(next) => (next, Turn::Moved),
             Step::Waits(same) => (same, Turn::Stuck),
