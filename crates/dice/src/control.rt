@@ -273,6 +273,16 @@ impl<'t> Step<'t> {
         Step::GoesTo(Control::Status(status))
     }
 
+    /// Words are expanded.
+    pub fn expands(heap: Global, words: &'t [Word], purpose: Purpose<'t>) -> Step<'t> {
+        Step::GoesTo(Control::Words(Expansion::of_words(heap, words, purpose)))
+    }
+
+    /// One word is expanded, and its values are not split.
+    pub fn expands_one(heap: Global, word: &'t Word, purpose: Purpose<'t>) -> Step<'t> {
+        Step::GoesTo(Control::Words(Expansion::of_word(heap, word, purpose)))
+    }
+
     pub fn works(builtin: Builtin) -> Step<'t> {
         Step::GoesTo(Control::Builtin(builtin))
     }

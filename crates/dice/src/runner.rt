@@ -102,6 +102,7 @@ impl<'t> Runner<'t> {
 
     /// The process at this place moves, if it can. Who exits is gone, and leaves its status.
     fn move_at(&mut self, i: usize) -> Result<Turn, AllocError> {
+        // Never so, since those who wait keep their places; to know it, every step would have to promise it.
         if i >= self.processes.len() {
             return Ok(Turn::Stuck);
         }

@@ -9,37 +9,27 @@ use crate::runner::{ReadByte, Runner};
 use crate::system::Streams;
 use crate::text::{FAILURE, QuotedByte, SUCCESS, bytes_of, has_pattern, matches_name, trim};
 use dice_tree::tree::{
-    Arm, Command, Compound, Item, Joined, Joiner, Joins, Pipeline, Redirect, Word, WordPart,
+    Arm, Command, Compound, Item, Joined, Joiner, Joins, Pipeline, Redirect, WordPart,
 };
 use std::alloc::{AllocError, Global};
 use std::collections::VecDeque;
-
-/// Words of which nothing is expanded yet.
-fn words<'t>(heap: Global, words: &'t [Word], purpose: Purpose<'t>) -> Step<'t> {
-    Step::GoesTo(Control::Words(Expansion::of_words(heap, words, purpose)))
-}
-
-/// One word, whose values are not split.
-fn word<'t>(heap: Global, word: &'t Word, purpose: Purpose<'t>) -> Step<'t> {
-    Step::GoesTo(Control::Words(Expansion::of_word(heap, word, purpose)))
-}
 
 /// name=word from the left, each holding from then on; then the words.
 fn step_simple<'t>(heap: Global, simple: Simple<'t>) -> Step<'t> {
     let Simple {
         assignments,
-        words: all,
+        words,
         redirects,
     } = simple;
     let Some((assignment, assignments)) = assignments.split_first() else {
-        return words(heap, all, Purpose::Invoke { redirects });
+        return Step::expands(heap, words, Purpose::Invoke { redirects });
     };
     let rest = Simple {
         assignments,
         ..simple
     };
     let name = assignment.name.as_slice();
-    word(heap, &assignment.word, Purpose::Assign { name, rest })
+    Step::expands_one(heap, &assignment.word, Purpose::Assign { name, rest })
 }
 
 /// The arms of a case, until one matches; status 0 if none does.
@@ -53,7 +43,7 @@ fn step_arms<'t>(heap: Global, subject: Vec<u8>, arms: &'t [Arm]) -> Step<'t> {
         list,
         rest,
     };
-    word(heap, &arm.pattern, purpose)
+    Step::expands_one(heap, &arm.pattern, purpose)
 }
 
 /// The pattern of an arm is expanded: whether it is the subject. No word is the empty one.
@@ -128,6 +118,17 @@ impl<'t> Process<'t> {
     ) -> Result<Step<'t>, AllocError> {
         let control = Control::Redirects { redirects, then };
         self.enters(Frame::Streams(self.streams), control)
+    }
+
+    /// A redirection is made: the next one.
+    fn reopens(
+        &mut self,
+        streams: Streams,
+        redirects: &'t [Redirect],
+        then: AfterRedirects<'t>,
+    ) -> Step<'t> {
+        self.streams = streams;
+        Step::GoesTo(Control::Redirects { redirects, then })
     }
 
     /// A function is defined.
@@ -326,15 +327,16 @@ impl<'t> Runner<'t> {
                 condition,
                 body,
             }),
-            Compound::For {
-                name,
-                words: all,
-                body,
-            } => Ok(words(heap, all, Purpose::For(For { name, body }))),
-            Compound::Case {
-                word: subject,
-                arms,
-            } => Ok(word(heap, subject, Purpose::Select { arms })),
+            Compound::For { name, words, body } => Ok(Step::expands(
+                heap,
+                words,
+                Purpose::For(For { name, body }),
+            )),
+            Compound::Case { word, arms } => Ok(Step::expands_one(
+                heap,
+                word,
+                Purpose::Select { arms },
+            )),
         }
     }
 
@@ -348,7 +350,7 @@ impl<'t> Runner<'t> {
         if let Some((redirect, rest)) = redirects.split_first() {
             let kind = redirect.kind;
             let purpose = Purpose::Redirect { kind, rest, then };
-            return Ok(word(self.system.heap, &redirect.word, purpose));
+            return Ok(Step::expands_one(self.system.heap, &redirect.word, purpose));
         }
         match then {
             AfterRedirects::Invoke(words) => self.invoke(process, words),
@@ -419,14 +421,10 @@ impl<'t> Runner<'t> {
             }
             Purpose::Redirect { kind, rest, then } => {
                 let name = built.first_bytes()?;
-                let Some(streams) = self.system.redirected(process.streams, kind, name)? else {
-                    return Ok(Step::completes(FAILURE));
-                };
-                process.streams = streams;
-                Ok(Step::GoesTo(Control::Redirects {
-                    redirects: rest,
-                    then,
-                }))
+                Ok(match self.system.redirected(process.streams, kind, name)? {
+                    Some(streams) => process.reopens(streams, rest, then),
+                    None => Step::completes(FAILURE),
+                })
             }
             Purpose::For(of) => {
                 let all = self.all_pathnames(built.complete())?;
