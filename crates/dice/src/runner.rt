@@ -27,6 +27,14 @@ pub enum ReadByte {
     MustWait,
 }
 
+/// What a move comes to: the process goes on, it has to wait, or it has exited with this status.
+#[derive(Clone, Copy)]
+enum Motion {
+    Continues,
+    Waits,
+    Exits(u32),
+}
+
 /// What a turn comes to: somebody has moved, or nobody can.
 #[derive(Clone, Copy, PartialEq, Eq)]
 pub enum Turn {
@@ -100,27 +108,50 @@ impl<'t> Runner<'t> {
         }
     }
 
-    /// The process at this place moves, if it can. Who exits is gone, and leaves its status.
-    fn move_at(&mut self, i: usize) -> Result<Turn, AllocError> {
-        // Never so, since those who wait keep their places; to know it, every step would have to promise it.
-        if i >= self.processes.len() {
-            return Ok(Turn::Stuck);
-        }
-        let mut process = self.processes.remove(i);
+    /// A process moves, if it can: its control is what the step leads to, or as it was.
+    fn move_process(&mut self, process: &mut Process<'t>) -> Result<Motion, AllocError> {
         let control = std::mem::replace(&mut process.control, Control::Status(SUCCESS));
-        let (control, turn) = match self.step(&mut process, control)? {
-            Step::GoesTo(next) => (next, Turn::Moved),
-            Step::Waits(same) => (same, Turn::Stuck),
-            Step::Exits(status) => {
-                self.exited.insert(process.pid, status)?;
-                return Ok(Turn::Moved);
-            }
+        let (control, motion) = match self.step(process, control)? {
+            Step::GoesTo(next) => (next, Motion::Continues),
+            Step::Waits(same) => (same, Motion::Waits),
+            Step::Exits(status) => return Ok(Motion::Exits(status)),
         };
         process.control = control;
-        // New processes come behind the others, so this is the place that it had.
+        Ok(motion)
+    }
+
+    /// Takes the process at this place out of the others.
+    fn take_out(&mut self, i: usize) -> Option<Process<'t>> {
+        if i < self.processes.len() {
+            Some(self.processes.remove(i))
+        } else {
+            None
+        }
+    }
+
+    /// Puts a process back to its place. New processes come behind the others, so it is there still.
+    fn put_back(&mut self, i: usize, process: Process<'t>) -> Result<(), AllocError> {
         let i = i.min(self.processes.len());
         self.processes.insert(i, process)?;
-        Ok(turn)
+        Ok(())
+    }
+
+    /// The process at this place moves, if it can. Who exits is gone, and leaves its status.
+    fn move_at(&mut self, i: usize) -> Result<Turn, AllocError> {
+        let Some(mut process) = self.take_out(i) else {
+            return Ok(Turn::Stuck);
+        };
+        match self.move_process(&mut process)? {
+            Motion::Continues => self.put_back(i, process)?,
+            Motion::Waits => {
+                self.put_back(i, process)?;
+                return Ok(Turn::Stuck);
+            }
+            Motion::Exits(status) => {
+                self.exited.insert(process.pid, status)?;
+            }
+        }
+        Ok(Turn::Moved)
     }
 
     /// One move: from a place that the dice choose on, the first process that can.

@@ -8,8 +8,9 @@ use crate::process::Process;
 use crate::runner::{ReadByte, Runner};
 use crate::system::Streams;
 use crate::text::{FAILURE, QuotedByte, SUCCESS, bytes_of, has_pattern, matches_name, trim};
+use crate::words::WordBuilder;
 use dice_tree::tree::{
-    Arm, Command, Compound, Item, Joined, Joiner, Joins, Pipeline, Redirect, WordPart,
+    Arm, Command, Compound, Item, Joined, Joiner, Joins, Pipeline, Redirect, RedirectKind, WordPart,
 };
 use std::alloc::{AllocError, Global};
 use std::collections::VecDeque;
@@ -46,16 +47,29 @@ fn step_arms<'t>(heap: Global, subject: Vec<u8>, arms: &'t [Arm]) -> Step<'t> {
     Step::expands_one(heap, &arm.pattern, purpose)
 }
 
-/// The pattern of an arm is expanded: whether it is the subject. No word is the empty one.
-fn matches_subject(
+/// The word of a case is expanded: its first arm.
+fn select<'t>(heap: Global, built: &WordBuilder, arms: &'t [Arm]) -> Result<Step<'t>, AllocError> {
+    Ok(step_arms(heap, built.first_bytes()?, arms))
+}
+
+/// The pattern of an arm is expanded: its list is done if it matches, else the next arm is tried. No word is the empty
+/// pattern.
+fn step_match<'t>(
     heap: Global,
-    words: &[Vec<QuotedByte>],
-    subject: &[u8],
-) -> Result<bool, AllocError> {
-    match words.first() {
-        Some(pattern) => matches_name(heap, pattern, subject),
-        None => Ok(subject.is_empty()),
-    }
+    built: &WordBuilder,
+    subject: Vec<u8>,
+    list: &'t [Item],
+    rest: &'t [Arm],
+) -> Result<Step<'t>, AllocError> {
+    let matches = match built.complete().first() {
+        Some(pattern) => matches_name(heap, pattern, &subject)?,
+        None => subject.is_empty(),
+    };
+    Ok(if matches {
+        Step::GoesTo(Control::List(list))
+    } else {
+        step_arms(heap, subject, rest)
+    })
 }
 
 /// A condition is done. An if of which no branch is taken has status 0; an else that is there is a branch.
@@ -120,15 +134,16 @@ impl<'t> Process<'t> {
         self.enters(Frame::Streams(self.streams), control)
     }
 
-    /// A redirection is made: the next one.
-    fn reopens(
+    /// The word of an assignment is expanded: it is made, and then what comes behind it.
+    fn assign(
         &mut self,
-        streams: Streams,
-        redirects: &'t [Redirect],
-        then: AfterRedirects<'t>,
-    ) -> Step<'t> {
-        self.streams = streams;
-        Step::GoesTo(Control::Redirects { redirects, then })
+        heap: Global,
+        name: &[u8],
+        built: &WordBuilder,
+        rest: Simple<'t>,
+    ) -> Result<Step<'t>, AllocError> {
+        self.environment.set(heap, name, built.first_bytes()?)?;
+        Ok(step_simple(heap, rest))
     }
 
     /// A function is defined.
@@ -411,38 +426,57 @@ impl<'t> Runner<'t> {
         let heap = self.system.heap;
         let Expansion { built, purpose, .. } = expansion;
         match purpose {
-            Purpose::Assign { name, rest } => {
-                process.environment.set(heap, name, built.first_bytes()?)?;
-                Ok(step_simple(heap, rest))
-            }
-            Purpose::Invoke { redirects } => {
-                let then = AfterRedirects::Invoke(self.all_pathnames(built.complete())?);
-                process.enters_redirects(redirects, then)
-            }
+            Purpose::Assign { name, rest } => process.assign(heap, name, &built, rest),
+            Purpose::Invoke { redirects } => self.start_invocation(process, &built, redirects),
             Purpose::Redirect { kind, rest, then } => {
-                let name = built.first_bytes()?;
-                Ok(match self.system.redirected(process.streams, kind, name)? {
-                    Some(streams) => process.reopens(streams, rest, then),
-                    None => Step::completes(FAILURE),
-                })
+                self.redirect(process, &built, kind, rest, then)
             }
-            Purpose::For(of) => {
-                let all = self.all_pathnames(built.complete())?;
-                process.step_for(heap, of, all, SUCCESS)
-            }
-            Purpose::Select { arms } => Ok(step_arms(heap, built.first_bytes()?, arms)),
+            Purpose::For(of) => self.start_for(process, &built, of),
+            Purpose::Select { arms } => select(heap, &built, arms),
             Purpose::Match {
                 subject,
                 list,
                 rest,
-            } => {
-                if matches_subject(heap, built.complete(), &subject)? {
-                    Ok(Step::GoesTo(Control::List(list)))
-                } else {
-                    Ok(step_arms(heap, subject, rest))
-                }
-            }
+            } => step_match(heap, &built, subject, list, rest),
         }
+    }
+
+    /// The words of a simple command: its redirections are made, and then they are invoked.
+    fn start_invocation(
+        &self,
+        process: &mut Process<'t>,
+        built: &WordBuilder,
+        redirects: &'t [Redirect],
+    ) -> Result<Step<'t>, AllocError> {
+        let words = self.all_pathnames(built.complete())?;
+        process.enters_redirects(redirects, AfterRedirects::Invoke(words))
+    }
+
+    /// A redirection's word: its file or text is opened. If the file isn't there the command is not done, and has status 1.
+    fn redirect(
+        &mut self,
+        process: &mut Process<'t>,
+        built: &WordBuilder,
+        kind: RedirectKind,
+        redirects: &'t [Redirect],
+        then: AfterRedirects<'t>,
+    ) -> Result<Step<'t>, AllocError> {
+        let name = built.first_bytes()?;
+        let Some(streams) = self.system.redirected(process.streams, kind, name)? else {
+            return Ok(Step::completes(FAILURE));
+        };
+        process.streams = streams;
+        Ok(Step::GoesTo(Control::Redirects { redirects, then }))
+    }
+
+    fn start_for(
+        &self,
+        process: &mut Process<'t>,
+        built: &WordBuilder,
+        of: For<'t>,
+    ) -> Result<Step<'t>, AllocError> {
+        let words = self.all_pathnames(built.complete())?;
+        process.step_for(self.system.heap, of, words, SUCCESS)
     }
 
     /// One part of a word; behind the last part, the next word, if there is one.
