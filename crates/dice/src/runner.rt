@@ -9,11 +9,11 @@ use prng::Dice;
 use std::alloc::{AllocError, Global};
 use std::collections::BTreeMap;
 
-/// The system and its processes. The one that moves stands beside the others.
+/// The system and its processes. The one that moves stands beside the others, and its place is empty.
 #[derive(Drop)]
 pub struct Runner<'t> {
     pub system: System,
-    pub processes: Vec<Process<'t>>,
+    pub processes: Vec<Option<Process<'t>>>,
     next_pid: usize,
     /// The statuses of those who have exited.
     pub exited: BTreeMap<Pid, u32>,
@@ -28,7 +28,7 @@ pub enum ReadByte {
 }
 
 /// What a move comes to: the process goes on, it has to wait, or it has exited with this status.
-#[derive(Clone, Copy)]
+#[derive(Clone, Copy, PartialEq, Eq)]
 enum Motion {
     Continues,
     Waits,
@@ -66,7 +66,7 @@ impl<'t> Runner<'t> {
     ) -> Result<Pid, AllocError> {
         let pid = Pid(self.next_pid);
         let process = Process::new(self.system.heap, pid, control, streams, environment);
-        self.processes.push(process)?;
+        self.processes.push(Some(process))?;
         self.next_pid = self.next_pid.saturating_add(1);
         Ok(pid)
     }
@@ -86,7 +86,8 @@ impl<'t> Runner<'t> {
     /// Somebody holds this end of a pipe: the process that moves, or another.
     fn is_held(&self, process: &Process<'t>, end: PipeEnd) -> bool {
         let system = &self.system;
-        process.holds(system, end) || self.processes.iter().any(|other| other.holds(system, end))
+        let mut others = self.processes.iter().filter_map(|place| place.as_ref());
+        process.holds(system, end) || others.any(|other| other.holds(system, end))
     }
 
     /// Reads a byte from a handle. An empty pipe ends when nobody holds its other end any more.
@@ -120,38 +121,39 @@ impl<'t> Runner<'t> {
         Ok(motion)
     }
 
-    /// Takes the process at this place out of the others.
+    /// Takes the process at this place out of it.
     fn take_out(&mut self, i: usize) -> Option<Process<'t>> {
-        if i < self.processes.len() {
-            Some(self.processes.remove(i))
-        } else {
-            None
+        self.processes.get_mut(i)?.take()
+    }
+
+    /// Puts a process back to its place.
+    fn put_back(&mut self, i: usize, process: Process<'t>) {
+        if let Some(place) = self.processes.get_mut(i) {
+            *place = Some(process);
         }
     }
 
-    /// Puts a process back to its place. New processes come behind the others, so it is there still.
-    fn put_back(&mut self, i: usize, process: Process<'t>) -> Result<(), AllocError> {
-        let i = i.min(self.processes.len());
-        self.processes.insert(i, process)?;
+    /// The process at this place has exited: its status stays, and nothing else of it.
+    fn leave(&mut self, i: usize, pid: Pid, status: u32) -> Result<(), AllocError> {
+        self.exited.insert(pid, status)?;
+        if i < self.processes.len() {
+            let _ = self.processes.remove(i);
+        }
         Ok(())
     }
 
-    /// The process at this place moves, if it can. Who exits is gone, and leaves its status.
-    fn move_at(&mut self, i: usize) -> Result<Turn, AllocError> {
+    /// The process at this place moves, if it can.
+    fn move_at(&mut self, i: usize) -> Result<Motion, AllocError> {
         let Some(mut process) = self.take_out(i) else {
-            return Ok(Turn::Stuck);
+            return Ok(Motion::Waits);
         };
-        match self.move_process(&mut process)? {
-            Motion::Continues => self.put_back(i, process)?,
-            Motion::Waits => {
-                self.put_back(i, process)?;
-                return Ok(Turn::Stuck);
-            }
-            Motion::Exits(status) => {
-                self.exited.insert(process.pid, status)?;
-            }
+        let motion = self.move_process(&mut process)?;
+        let pid = process.pid;
+        self.put_back(i, process);
+        if let Motion::Exits(status) = motion {
+            self.leave(i, pid, status)?;
         }
-        Ok(Turn::Moved)
+        Ok(motion)
     }
 
     /// One move: from a place that the dice choose on, the first process that can.
@@ -159,7 +161,7 @@ impl<'t> Runner<'t> {
         let count = self.processes.len();
         let first = dice.below(count);
         for i in (first..count).chain(0..first) {
-            if self.move_at(i)? == Turn::Moved {
+            if self.move_at(i)? != Motion::Waits {
                 return Ok(Turn::Moved);
             }
         }

@@ -73,7 +73,7 @@ impl Streams {
 pub struct EmptyPipe(pub PipeId);
 
 /// Writing a byte: it is written; the pipe is full; nobody can read the pipe any more.
-#[derive(Clone, Copy, PartialEq, Eq)]
+#[derive(Clone, Copy)]
 pub enum WriteByte {
     Wrote,
     PipeFull,
