@@ -1,174 +1,148 @@
 //! What the texts give, beside what they should give.
 
-use crate::records::{Expectation, Record};
+use crate::counts::{Counts, Outcomes};
+use crate::records::{Expectation, Expected, Record};
 use anyhow::anyhow;
-use dice::run::{Outcome, Report, run};
-use dice_tree::calm::{calm, stage};
+use dice::run::{Report, run};
+use dice_tree::calm::calm;
 use dice_tree::parser::parse;
-use dice_tree::tree::{Fault, Tree, line_and_column};
-use std::alloc::Global;
+use dice_tree::stage::Stage;
+use dice_tree::tree::{Fault, Item, line_and_column};
+use std::fmt;
 
 /// So many moves a text of the files may take.
 const MOVES: u64 = 500_000;
 /// The dice with which each is run.
 pub const SEEDS: [u64; 5] = [1, 2, 3, 4, 5];
 
-/// How many texts came out in which way.
-#[derive(Clone, Copy)]
-pub struct Table {
-    pub stages: [u32; 6],
-    pub ended: u32,
-    pub spent: u32,
-    pub refused: u32,
-    pub agreed: u32,
-    pub differing: u32,
+fn as_text(bytes: &[u8]) -> &str {
+    std::str::from_utf8(bytes).unwrap_or("(bytes that are no text)")
 }
 
-impl Table {
-    pub fn new() -> Table {
-        Table {
-            stages: [0; 6],
-            ended: 0,
-            spent: 0,
-            refused: 0,
-            agreed: 0,
-            differing: 0,
+impl Expected {
+    fn fits(&self, report: &Report) -> bool {
+        let paper = match &self.paper {
+            Some(paper) => paper.as_bytes() == report.paper.as_slice(),
+            None => true,
+        };
+        paper && self.outcome == report.outcome
+    }
+}
+
+impl Counts {
+    /// One more that fits, or a line that says which does not, and what it gives.
+    fn note<D: fmt::Display + Drop>(
+        &mut self,
+        rt: &impl Print,
+        record: &Record,
+        fits: bool,
+        found: D,
+    ) -> anyhow::Result<()> {
+        self.agreements.count(fits);
+        if !fits {
+            let name = record.name.as_str();
+            println!(rt; "DIFFERS: {name}: {found}")?;
+        }
+        Ok(())
+    }
+
+    /// A text that is none: where reading stops, and what was expected there.
+    fn check_refusal(
+        &mut self,
+        rt: &(impl Print + AllocGlobal),
+        record: &Record,
+        fault: &Fault,
+    ) -> anyhow::Result<()> {
+        let Fault::NoText(refusal) = fault else {
+            return Err(anyhow!("no memory"));
+        };
+        self.outcomes.refuse();
+        let (line, column) = line_and_column(record.text.as_bytes(), refusal.place);
+        let expected = refusal.expected;
+        let found = format!(in rt.alloc(); "{line}:{column} {expected}")?;
+        let fits = match &record.expectation {
+            Expectation::NoText(words) => *words == found,
+            Expectation::Runs(_) => false,
+        };
+        self.note(rt, record, fits, found)
+    }
+
+    /// One run with these dice. What another runner gives is to be compared here too.
+    fn check_run(
+        &mut self,
+        rt: &(impl Print + AllocGlobal),
+        record: &Record,
+        expected: &Expected,
+        list: &[Item],
+        seed: u64,
+    ) -> anyhow::Result<()> {
+        let report = run(rt.alloc(), list, record.input.as_bytes(), seed, MOVES)?;
+        let outcome = report.outcome;
+        let paper = as_text(&report.paper);
+        let found = format_args!("dice {seed}: {outcome:?}, paper:\n{paper}");
+        self.note(rt, record, expected.fits(&report), found)
+    }
+
+    fn check_forms(
+        &mut self,
+        rt: &impl Print,
+        record: &Record,
+        expected: &Expected,
+        list: &[Item],
+    ) -> anyhow::Result<()> {
+        let stage = Stage::of(list).number();
+        let is_calm = calm(list);
+        let fits = stage == expected.stage && is_calm == expected.calm;
+        let found = format_args!("stage {stage}, calm: {is_calm}");
+        self.note(rt, record, fits, found)
+    }
+
+    /// A text that is one: its forms, and what it gives with several dice.
+    fn check_text(
+        &mut self,
+        rt: &(impl Print + AllocGlobal),
+        record: &Record,
+        list: &[Item],
+    ) -> anyhow::Result<()> {
+        let Expectation::Runs(expected) = &record.expectation else {
+            return self.note(rt, record, false, "a text");
+        };
+        self.stages.count(expected.stage);
+        self.outcomes.count(expected.outcome);
+        self.check_forms(rt, record, expected, list)?;
+        for seed in SEEDS {
+            self.check_run(rt, record, expected, list, seed)?;
+        }
+        Ok(())
+    }
+
+    /// Reads and runs one text with several dice.
+    pub fn check_record(
+        &mut self,
+        rt: &(impl Print + AllocGlobal),
+        record: &Record,
+    ) -> anyhow::Result<()> {
+        match parse(rt.alloc(), record.text.as_bytes()) {
+            Err(fault) => self.check_refusal(rt, record, &fault),
+            Ok(list) => self.check_text(rt, record, &list),
         }
     }
 }
 
-fn text_of(bytes: &[u8]) -> &str {
-    match std::str::from_utf8(bytes) {
-        Ok(text) => text,
-        Err(_) => "(bytes that are no text)",
-    }
-}
-
-/// One more that agrees, or a line that says which does not.
-fn note(
-    rt: &HostRuntime,
-    table: &mut Table,
-    record: &Record,
-    what: &str,
-    fits: bool,
-) -> anyhow::Result<()> {
-    if fits {
-        table.agreed = table.agreed.saturating_add(1);
-        return Ok(());
-    }
-    table.differing = table.differing.saturating_add(1);
-    let name = text_of(record.name.as_slice());
-    println!(rt; "DIFFERS: {name}: {what}")?;
-    Ok(())
-}
-
-fn check_refusal(
-    rt: &HostRuntime,
-    record: &Record,
-    fault: &Fault,
-    table: &mut Table,
-) -> anyhow::Result<()> {
-    let Fault::NoText(refusal) = fault else {
-        return Err(anyhow!("no memory"));
-    };
-    table.refused = table.refused.saturating_add(1);
-    let (line, column) = line_and_column(record.text.as_slice(), refusal.place);
-    let expected = refusal.expected;
-    let found = format!(in rt.alloc(); "{line}:{column} {expected}")?;
-    let fits = match &record.expectation {
-        Expectation::NoText(words) => words.as_slice() == found.as_bytes(),
-        _ => false,
-    };
-    note(rt, table, record, found.as_str(), fits)
-}
-
-fn fits(record: &Record, report: &Report) -> bool {
-    let outcome = match record.expectation {
-        Expectation::Ended(status) => report.outcome == Outcome::Ended(status),
-        Expectation::Spent => report.outcome == Outcome::Spent,
-        Expectation::NoText(_) => false,
-    };
-    let paper = match &record.paper {
-        Some(paper) => paper.as_slice() == report.paper.as_slice(),
-        None => true,
-    };
-    outcome && paper
-}
-
-/// One run with these dice. What another runner gives is to be compared here too.
-fn check_run(
-    rt: &HostRuntime,
-    record: &Record,
-    tree: &Tree,
-    seed: u64,
-    table: &mut Table,
-) -> anyhow::Result<()> {
-    let report = run(rt.alloc(), tree, record.input.as_slice(), seed, MOVES)?;
-    let outcome = report.outcome;
-    let paper = text_of(report.paper.as_slice());
-    let what = format!(in rt.alloc(); "dice {seed}: {outcome:?}, paper:\n{paper}")?;
-    note(rt, table, record, what.as_str(), fits(record, &report))
-}
-
-fn count(table: &mut Table, record: &Record) {
-    if let Some(n) = table.stages.get_mut(record.stage as usize) {
-        *n = n.saturating_add(1);
-    }
-    match record.expectation {
-        Expectation::Ended(_) => table.ended = table.ended.saturating_add(1),
-        Expectation::Spent => table.spent = table.spent.saturating_add(1),
-        Expectation::NoText(_) => {}
-    }
-}
-
-fn check_forms(
-    rt: &HostRuntime,
-    record: &Record,
-    tree: &Tree,
-    table: &mut Table,
-) -> anyhow::Result<()> {
-    let found = stage(tree);
-    let is_calm = match calm(rt.alloc(), tree) {
-        Ok(yes) => yes,
-        Err(_) => return Err(anyhow!("no memory")),
-    };
-    let what = format!(in rt.alloc(); "stage {found}, calm: {is_calm}")?;
-    note(
-        rt,
-        table,
-        record,
-        what.as_str(),
-        found == record.stage && is_calm == record.calm,
-    )
-}
-
-/// Reads and runs one text with several dice.
-pub fn check_record(rt: &HostRuntime, record: &Record, table: &mut Table) -> anyhow::Result<()> {
-    match parse(rt.alloc(), record.text.as_slice()) {
-        Err(fault) => check_refusal(rt, record, &fault, table),
-        Ok(tree) => {
-            count(table, record);
-            check_forms(rt, record, &tree, table)?;
-            for seed in SEEDS {
-                check_run(rt, record, &tree, seed, table)?;
-            }
-            Ok(())
-        }
-    }
-}
-
-pub fn print_table(rt: &HostRuntime, table: &Table) -> anyhow::Result<()> {
-    let [s0, s1, s2, s3, s4, s5] = table.stages;
-    let Table {
+pub fn print_counts(rt: &impl Print, counts: &Counts) -> anyhow::Result<()> {
+    let Counts {
+        stages,
+        outcomes,
+        agreements,
+    } = *counts;
+    let Outcomes {
         ended,
         spent,
         refused,
-        agreed,
-        differing,
         ..
-    } = *table;
-    println!(rt; "texts by stage: {s0} {s1} {s2} {s3} {s4} {s5}")?;
+    } = outcomes;
+    println!(rt; "texts by stage: {stages}")?;
     println!(rt; "ended {ended}, spent {spent}, no text {refused}")?;
-    println!(rt; "agreements {agreed}, disagreements {differing}")?;
+    println!(rt; "{agreements}")?;
     Ok(())
 }

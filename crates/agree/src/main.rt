@@ -4,10 +4,14 @@
 #![tactic(auto)]
 
 mod compare;
+mod counts;
 mod random;
 mod records;
 
+use crate::counts::Counts;
+use crate::random::Tally;
 use std::fs;
+use std::rt::Files;
 
 /// The files of texts.
 const FILES: [&str; 8] = [
@@ -21,35 +25,31 @@ const FILES: [&str; 8] = [
     "refused.txt",
 ];
 
-fn check_records(rt: &HostRuntime) -> anyhow::Result<()> {
+fn check_records(rt: &(impl Print + AllocGlobal + Files)) -> anyhow::Result<()> {
     let mut all = Vec::new(rt.alloc());
     for file in FILES {
-        let bytes = fs::read(rt, file)?;
-        records::read_records(rt.alloc(), bytes.as_slice(), &mut all)?;
+        let text = fs::read_to_string(rt, file)?;
+        records::read_records(rt.alloc(), &text, &mut all)?;
     }
-    let mut table = compare::Table::new();
+    let mut counts = Counts::default();
     for record in all.iter() {
-        compare::check_record(rt, record, &mut table)?;
+        counts.check_record(rt, record)?;
     }
-    compare::print_table(rt, &table)
+    compare::print_counts(rt, &counts)
 }
 
-fn check_random(rt: &HostRuntime) -> anyhow::Result<()> {
-    let mut tally = random::Tally::new();
+fn check_random(rt: &(impl Print + AllocGlobal)) -> anyhow::Result<()> {
+    let mut tally = Tally::default();
     for seed in 0..random::TEXTS {
-        random::check_text(rt, seed, &mut tally)?;
+        tally.check_text(rt, seed)?;
     }
     for seed in 0..random::MUTATED {
-        random::check_mutated(rt, seed, &mut tally)?;
+        tally.check_mutated(rt, seed)?;
     }
     random::print_tally(rt, &tally)
 }
 
-fn check_all(rt: &HostRuntime) -> anyhow::Result<()> {
-    check_records(rt)?;
-    check_random(rt)
-}
-
 fn main(rt: HostRuntime) -> anyhow::Result<()> {
-    check_all(&rt)
+    check_records(&rt)?;
+    check_random(&rt)
 }

@@ -1,12 +1,13 @@
 //! Random texts: that calm ones give the same with all dice.
 
 use crate::compare::SEEDS;
+use crate::counts::{Counts, Outcomes};
 use dice::run::{Outcome, Report, run};
-use dice_tree::calm::{calm, stage};
+use dice_tree::calm::calm;
 use dice_tree::parser::parse;
-use dice_tree::tree::Tree;
+use dice_tree::stage::Stage;
+use dice_tree::tree::Item;
 use random_texts::{mutated_text, random_text};
-use std::alloc::Global;
 
 /// So many random texts, and mutated ones.
 pub const TEXTS: u64 = 2400;
@@ -16,119 +17,86 @@ pub const MUTATED: u64 = 1200;
 const MOVES: u64 = 20_000;
 
 /// How many random texts came out in which way.
-#[derive(Clone, Copy)]
+#[derive(Clone, Copy, Default)]
 pub struct Tally {
-    pub stages: [u32; 6],
-    pub calm: u32,
-    pub ended: u32,
-    pub still: u32,
-    pub spent: u32,
-    pub refused: u32,
-    pub agreed: u32,
-    pub differing: u32,
-    pub mutated_refused: u32,
-}
-
-impl Tally {
-    pub fn new() -> Tally {
-        let stages = [0; 6];
-        Tally {
-            stages,
-            calm: 0,
-            ended: 0,
-            still: 0,
-            spent: 0,
-            refused: 0,
-            agreed: 0,
-            differing: 0,
-            mutated_refused: 0,
-        }
-    }
-}
-
-fn one_more(n: &mut u32) {
-    *n = n.saturating_add(1);
+    counts: Counts,
+    calm: u32,
+    mutated_refused: u32,
 }
 
 /// Two runs of a calm text, if both ended, have the same paper and outcome.
 fn agrees(a: &Report, b: &Report) -> bool {
     match (a.outcome, b.outcome) {
-        (Outcome::Ended(m), Outcome::Ended(n)) => m == n
-            && a.paper.as_slice() == b.paper.as_slice(),
+        (Outcome::Ended(m), Outcome::Ended(n)) => m == n && a.paper == b.paper,
         _ => true,
     }
 }
 
-fn count(tally: &mut Tally, tree: &Tree, outcome: Outcome) {
-    if let Some(n) = tally.stages.get_mut(stage(tree) as usize) {
-        one_more(n);
-    }
-    match outcome {
-        Outcome::Ended(_) => one_more(&mut tally.ended),
-        Outcome::Still => one_more(&mut tally.still),
-        Outcome::Spent => one_more(&mut tally.spent),
-    }
-}
-
-/// The other dice beside the first run of a calm text. What another runner gives is to be compared here too.
-fn check_dice(
-    rt: &HostRuntime,
-    seed: u64,
-    tree: &Tree,
-    first: &Report,
-    tally: &mut Tally,
-) -> anyhow::Result<()> {
-    one_more(&mut tally.calm);
-    for dice in SEEDS {
-        let other = run(rt.alloc(), tree, &[], dice, MOVES)?;
-        if agrees(first, &other) {
-            one_more(&mut tally.agreed);
-        } else {
-            one_more(&mut tally.differing);
-            println!(rt; "DIFFERS: random text {seed}, dice {dice}")?;
+impl Tally {
+    /// The other dice beside the first run of a calm text. What another runner gives is to be compared here too.
+    fn check_dice(
+        &mut self,
+        rt: &(impl Print + AllocGlobal),
+        seed: u64,
+        list: &[Item],
+        first: &Report,
+    ) -> anyhow::Result<()> {
+        self.calm = self.calm.saturating_add(1);
+        for dice in SEEDS {
+            let other = run(rt.alloc(), list, &[], dice, MOVES)?;
+            let agrees = agrees(first, &other);
+            self.counts.agreements.count(agrees);
+            if !agrees {
+                println!(rt; "DIFFERS: random text {seed}, dice {dice}")?;
+            }
         }
+        Ok(())
     }
-    Ok(())
+
+    pub fn check_text(&mut self, rt: &(impl Print + AllocGlobal), seed: u64) -> anyhow::Result<()> {
+        let text = random_text(rt.alloc(), seed)?;
+        let Ok(list) = parse(rt.alloc(), &text) else {
+            self.counts.outcomes.refuse();
+            return Ok(());
+        };
+        let first = run(rt.alloc(), &list, &[], 0, MOVES)?;
+        self.counts.stages.count(Stage::of(&list).number());
+        self.counts.outcomes.count(first.outcome);
+        if calm(&list) {
+            self.check_dice(rt, seed, &list, &first)?;
+        }
+        Ok(())
+    }
+
+    pub fn check_mutated(&mut self, rt: &impl AllocGlobal, seed: u64) -> anyhow::Result<()> {
+        let text = mutated_text(rt.alloc(), seed)?;
+        if parse(rt.alloc(), &text).is_err() {
+            self.mutated_refused = self.mutated_refused.saturating_add(1);
+        }
+        Ok(())
+    }
 }
 
-pub fn check_text(rt: &HostRuntime, seed: u64, tally: &mut Tally) -> anyhow::Result<()> {
-    let text = random_text(rt.alloc(), seed)?;
-    let Ok(tree) = parse(rt.alloc(), text.as_slice()) else {
-        one_more(&mut tally.refused);
-        return Ok(());
-    };
-    let first = run(rt.alloc(), &tree, &[], 0, MOVES)?;
-    count(tally, &tree, first.outcome);
-    match calm(rt.alloc(), &tree) {
-        Ok(true) => check_dice(rt, seed, &tree, &first, tally),
-        _ => Ok(()),
-    }
-}
-
-pub fn check_mutated(rt: &HostRuntime, seed: u64, tally: &mut Tally) -> anyhow::Result<()> {
-    let text = mutated_text(rt.alloc(), seed)?;
-    if parse(rt.alloc(), text.as_slice()).is_err() {
-        one_more(&mut tally.mutated_refused);
-    }
-    Ok(())
-}
-
-pub fn print_tally(rt: &HostRuntime, tally: &Tally) -> anyhow::Result<()> {
-    let [s0, s1, s2, s3, s4, s5] = tally.stages;
+pub fn print_tally(rt: &impl Print, tally: &Tally) -> anyhow::Result<()> {
     let Tally {
+        counts,
         calm,
+        mutated_refused,
+    } = *tally;
+    let Counts {
+        stages,
+        outcomes,
+        agreements,
+    } = counts;
+    let Outcomes {
         ended,
         still,
         spent,
         refused,
-        agreed,
-        differing,
-        mutated_refused,
-        ..
-    } = *tally;
-    println!(rt; "random texts by stage: {s0} {s1} {s2} {s3} {s4} {s5}; calm {calm}")?;
+    } = outcomes;
+    println!(rt; "random texts by stage: {stages}; calm {calm}")?;
     println!(rt; "ended {ended}, still {still}, spent {spent}, no text {refused}")?;
-    println!(rt; "agreements {agreed}, disagreements {differing}")?;
+    println!(rt; "{agreements}")?;
     println!(rt; "mutated texts {MUTATED}, no text {mutated_refused}")?;
     Ok(())
 }

@@ -1,25 +1,42 @@
 //! The texts that are kept as data, each with what it gives.
 
+use dice::run::Outcome;
 use std::alloc::{AllocError, Global};
+use std::num::ParseIntError;
+use thiserror::Error;
+
+/// Why a file of records cannot be read.
+#[derive(Debug, Drop, Error)]
+pub enum RecordError {
+    #[error("a line of a record with no number: {0}")]
+    Number(#[from] ParseIntError),
+    #[error(transparent)]
+    Memory(#[from(alloc)] AllocError),
+}
 
 /// What a text is expected to come to.
 #[derive(Drop)]
 pub enum Expectation {
-    Ended(u32),
-    Spent,
-    /// The place and what was expected there, as it is printed.
-    NoText(Vec<u8>),
+    Runs(Expected),
+    /// It is no text: the place and what was expected there, as it is printed.
+    NoText(String),
+}
+
+/// What a text gives that is one.
+#[derive(Drop)]
+pub struct Expected {
+    pub stage: u32,
+    pub calm: bool,
+    pub outcome: Outcome,
+    /// Missing where it is not compared.
+    pub paper: Option<String>,
 }
 
 #[derive(Drop)]
 pub struct Record {
-    pub name: Vec<u8>,
-    pub text: Vec<u8>,
-    pub input: Vec<u8>,
-    /// Missing where it is not compared.
-    pub paper: Option<Vec<u8>>,
-    pub stage: u32,
-    pub calm: bool,
+    pub name: String,
+    pub text: String,
+    pub input: String,
     pub expectation: Expectation,
 }
 
@@ -31,195 +48,189 @@ enum Section {
     Paper,
 }
 
+/// A line of a file of records, without the signs at its beginning.
+#[derive(Clone, Copy)]
+enum Line<'a> {
+    /// The beginning of a record, with its name.
+    Name(&'a str),
+    /// N times a piece.
+    Times(&'a str),
+    /// A piece of a line, and a whole one.
+    Piece(&'a str),
+    Whole(&'a str),
+    Section(Section),
+    Stage(&'a str),
+    /// The end of a record: the status, or the place and what was expected there.
+    Ended(&'a str),
+    Spent,
+    NoText(&'a str),
+    /// A comment, or nothing.
+    Other,
+}
+
+impl<'a> From<&'a str> for Line<'a> {
+    fn from(line: &'a str) -> Line<'a> {
+        match line {
+            "input" => return Line::Section(Section::Input),
+            "paper" => return Line::Section(Section::Paper),
+            "spent" => return Line::Spent,
+            _ => {}
+        }
+        if let Some(rest) = line.strip_prefix('|') {
+            Line::Whole(rest.strip_prefix(' ').unwrap_or(rest))
+        } else if let Some(rest) = line.strip_prefix(": ") {
+            Line::Piece(rest)
+        } else if let Some(rest) = line.strip_prefix("* ") {
+            Line::Times(rest)
+        } else if let Some(rest) = line.strip_prefix("text ") {
+            Line::Name(rest)
+        } else if let Some(rest) = line.strip_prefix("stage ") {
+            Line::Stage(rest)
+        } else if let Some(rest) = line.strip_prefix("ended ") {
+            Line::Ended(rest)
+        } else if let Some(rest) = line.strip_prefix("no text ") {
+            Line::NoText(rest)
+        } else {
+            Line::Other
+        }
+    }
+}
+
+/// How a record ends: what its text comes to.
+#[derive(Drop)]
+enum Ending {
+    Outcome(Outcome),
+    NoText(String),
+}
+
+/// A number, and what stands behind it and a blank.
+fn leading_number(line: &str) -> Result<(u32, &str), RecordError> {
+    let (number, rest) = line.split_once(' ').unwrap_or((line, ""));
+    Ok((number.parse()?, rest))
+}
+
 /// A record while its lines are read.
 #[derive(Drop)]
 struct Draft {
-    name: Vec<u8>,
-    text: Vec<u8>,
-    input: Vec<u8>,
-    paper: Vec<u8>,
-    has_paper: bool,
+    heap: Global,
+    name: String,
+    text: String,
+    input: String,
+    paper: Option<String>,
     stage: u32,
     calm: bool,
     section: Section,
-    /// Whether the text's last line has an end, which is no part of it.
-    ended: bool,
 }
 
-fn new_draft(heap: Global, name: &[u8]) -> Result<Draft, AllocError> {
-    Ok(Draft {
-        name: name.to_vec(heap)?,
-        text: Vec::new(heap),
-        input: Vec::new(heap),
-        paper: Vec::new(heap),
-        has_paper: false,
-        stage: 0,
-        calm: false,
-        section: Section::Text,
-        ended: false,
-    })
-}
-
-/// What stands behind a beginning of a line, if it has that beginning.
-pub fn behind<'a>(line: &'a [u8], beginning: &[u8]) -> Option<&'a [u8]> {
-    if line.starts_with(beginning) {
-        line.get(beginning.len()..)
-    } else {
-        None
-    }
-}
-
-/// A number in decimal digits at the beginning of a line, and what stands behind it.
-pub fn leading_number(line: &[u8]) -> (u32, &[u8]) {
-    let mut n: u32 = 0;
-    for (i, c) in line.iter().enumerate() {
-        match *c {
-            b'0'..=b'9' => n = n.saturating_mul(10).saturating_add(u32::from(*c - b'0')),
-            _ => return (n, line.get(i..).unwrap_or(&[])),
+impl Draft {
+    fn new(heap: Global, name: String) -> Draft {
+        Draft {
+            heap,
+            name,
+            text: String::new(heap),
+            input: String::new(heap),
+            paper: None,
+            stage: 0,
+            calm: false,
+            section: Section::Text,
         }
     }
-    (n, &[])
-}
 
-fn add(draft: &mut Draft, bytes: &[u8], end: bool) -> Result<(), AllocError> {
-    match draft.section {
-        Section::Text => {
-            draft.text.extend_from_slice(bytes)?;
-            draft.ended = end;
+    fn begin(&mut self, section: Section) {
+        self.section = section;
+        if matches!(section, Section::Paper) {
+            self.paper = Some(String::new(self.heap));
         }
-        Section::Input => draft.input.extend_from_slice(bytes)?,
-        Section::Paper => draft.paper.extend_from_slice(bytes)?,
     }
-    Ok(())
-}
 
-/// N times a piece.
-fn add_times(draft: &mut Draft, line: &[u8]) -> Result<(), AllocError> {
-    let (times, rest) = leading_number(line);
-    let piece = behind(rest, b" ").unwrap_or(rest);
-    for _ in 0..times {
-        add(draft, piece, false)?;
+    /// A piece of the text, the input or the paper.
+    fn add(&mut self, piece: &str) -> Result<(), AllocError> {
+        match self.section {
+            Section::Text => self.text.push_str(piece),
+            Section::Input => self.input.push_str(piece),
+            Section::Paper => match &mut self.paper {
+                Some(paper) => paper.push_str(piece),
+                None => Ok(()),
+            },
+        }
     }
-    Ok(())
-}
 
-/// A line of the text, the input or the paper; false if it is none.
-fn content(draft: &mut Draft, line: &[u8]) -> Result<bool, AllocError> {
-    if let Some(rest) = behind(line, b"* ") {
-        add_times(draft, rest)?;
-    } else if let Some(rest) = behind(line, b": ") {
-        add(draft, rest, false)?;
-    } else if let Some(rest) = behind(line, b"|") {
-        add(draft, behind(rest, b" ").unwrap_or(rest), false)?;
-        add(draft, b"\n", true)?;
-    } else {
-        return Ok(false);
+    /// The record is whole. The end of its text's last line is no part of the text.
+    fn finish(self, ending: Ending) -> Record {
+        let Draft {
+            name,
+            mut text,
+            input,
+            paper,
+            stage,
+            calm,
+            ..
+        } = self;
+        if text.ends_with('\n') {
+            let _ = text.pop();
+        }
+        let expectation = match ending {
+            Ending::Outcome(outcome) => Expectation::Runs(Expected {
+                stage,
+                calm,
+                outcome,
+                paper,
+            }),
+            Ending::NoText(expected) => Expectation::NoText(expected),
+        };
+        Record {
+            name,
+            text,
+            input,
+            expectation,
+        }
     }
-    Ok(true)
-}
 
-/// A line that names a section or the stage.
-fn heading(draft: &mut Draft, line: &[u8]) {
-    if line == b"input".as_slice() {
-        draft.section = Section::Input;
-    } else if line == b"paper".as_slice() {
-        draft.section = Section::Paper;
-        draft.has_paper = true;
-    } else if let Some(rest) = behind(line, b"stage ") {
-        let (stage, rest) = leading_number(rest);
-        draft.stage = stage;
-        draft.calm = rest == b" calm".as_slice();
-    }
-}
-
-/// The last line of a record: what the text comes to.
-fn expected_outcome(heap: Global, line: &[u8]) -> Result<Option<Expectation>, AllocError> {
-    if let Some(rest) = behind(line, b"ended ") {
-        return Ok(Some(Expectation::Ended(leading_number(rest).0)));
-    }
-    if let Some(rest) = behind(line, b"no text ") {
-        return Ok(Some(Expectation::NoText(rest.to_vec(heap)?)));
-    }
-    if line == b"spent".as_slice() {
-        Ok(Some(Expectation::Spent))
-    } else {
+    /// Takes one line of a file of records; the end of the record, if it is that.
+    fn take(&mut self, line: Line<'_>) -> Result<Option<Ending>, RecordError> {
+        match line {
+            Line::Name(name) => *self = Draft::new(self.heap, String::from_str(self.heap, name)?),
+            Line::Times(rest) => {
+                let (times, piece) = leading_number(rest)?;
+                for _ in 0..times {
+                    self.add(piece)?;
+                }
+            }
+            Line::Piece(piece) => self.add(piece)?,
+            Line::Whole(line) => {
+                self.add(line)?;
+                self.add("\n")?;
+            }
+            Line::Section(section) => self.begin(section),
+            Line::Stage(rest) => {
+                let (stage, rest) = leading_number(rest)?;
+                self.stage = stage;
+                self.calm = rest == "calm";
+            }
+            Line::Ended(status) => return Ok(Some(Ending::Outcome(Outcome::Ended(
+                status.parse()?,
+            )))),
+            Line::Spent => return Ok(Some(Ending::Outcome(Outcome::Spent))),
+            Line::NoText(expected) => {
+                return Ok(Some(Ending::NoText(String::from_str(self.heap, expected)?)));
+            }
+            Line::Other => {}
+        }
         Ok(None)
     }
-}
-
-fn finished(draft: Draft, expectation: Expectation) -> Record {
-    let Draft {
-        name,
-        mut text,
-        input,
-        paper,
-        has_paper,
-        stage,
-        calm,
-        section: _,
-        ended,
-    } = draft;
-    if ended {
-        let _ = text.pop();
-    }
-    let paper = if has_paper { Some(paper) } else { None };
-    Record {
-        name,
-        text,
-        input,
-        paper,
-        stage,
-        calm,
-        expectation,
-    }
-}
-
-/// Takes one line of a file of records; the record that it completes, if it completes one.
-fn take_line(heap: Global, draft: &mut Draft, line: &[u8]) -> Result<Option<Record>, AllocError> {
-    if let Some(name) = behind(line, b"text ") {
-        *draft = new_draft(heap, name)?;
-        return Ok(None);
-    }
-    if content(draft, line)? {
-        return Ok(None);
-    }
-    heading(draft, line);
-    match expected_outcome(heap, line)? {
-        Some(expected) => {
-            let whole = std::mem::replace(draft, new_draft(heap, b"")?);
-            Ok(Some(finished(whole, expected)))
-        }
-        None => Ok(None),
-    }
-}
-
-/// The end of the line that begins at a place.
-fn line_end(file: &[u8], from: usize) -> usize {
-    for at in from..file.len() {
-        if file.get(at).copied() == Some(b'\n') {
-            return at;
-        }
-    }
-    file.len()
 }
 
 /// Reads the records of a file behind those that are there.
 pub fn read_records(
     heap: Global,
-    file: &[u8],
+    file: &str,
     records: &mut Vec<Record>,
-) -> Result<(), AllocError> {
-    let mut draft = new_draft(heap, b"")?;
-    let mut from = 0;
-    for _ in 0..file.len() {
-        let to = line_end(file, from);
-        let line = file.get(from..to).unwrap_or(&[]);
-        if let Some(record) = take_line(heap, &mut draft, line)? {
-            records.push(record)?;
-        }
-        from = to.saturating_add(1);
-        if from >= file.len() {
-            break;
+) -> Result<(), RecordError> {
+    let mut draft = Draft::new(heap, String::new(heap));
+    for line in file.split('\n') {
+        if let Some(ending) = draft.take(Line::from(line))? {
+            let whole = std::mem::replace(&mut draft, Draft::new(heap, String::new(heap)));
+            records.push(whole.finish(ending))?;
         }
     }
     Ok(())

@@ -1,54 +1,38 @@
 //! The builtin commands: how each begins, and its moves.
 
-use crate::system::{
-    Builtin, Control, Handle, Printing, Process, ReadByte, System, Unwind, WriteByte, find_file,
-    open_handle, read_byte, remove_file, set_variable, write_byte,
+use crate::control::{Builtin, Control, Printing, Step, Unwind};
+use crate::process::Process;
+use crate::runner::{ReadByte, Runner};
+use crate::system::{FileReader, Handle, HandleId, WriteByte};
+use crate::text::{
+    FAILURE, MISUSE, NO_READER, NOT_FOUND, SUCCESS, as_line, contains, decimal, joined_line,
+    number, status_of, test_status,
 };
-use crate::words::{contains, decimal, joined_line, number, status_of, test_status};
 use dice_tree::parser::valid_name;
 use std::alloc::{AllocError, Global};
 use std::collections::VecDeque;
+use std::ops::RangeInclusive;
 
-/// What a step leads to: the process goes on, it has exited with this status, or it has to wait and nothing changed.
-#[derive(Clone, Copy)]
-pub enum StepResult {
-    Continues,
-    Exits(u32),
+/// What a move of a builtin comes to.
+#[derive(Drop)]
+pub enum Progress {
+    /// It goes on.
+    Works,
+    /// It prints these bytes, and goes on.
+    Prints(Vec<u8>),
+    /// It prints this line, if it is there, and is done with this status.
+    Ends { line: Option<Vec<u8>>, status: u32 },
+    /// The command is done, with this status.
+    Completes(u32),
+    /// It has to wait, and is as it was.
     Waits,
 }
 
-pub fn goes_to(w: &mut Process, control: Control) -> Result<StepResult, AllocError> {
-    w.control = control;
-    Ok(StepResult::Continues)
-}
-
-/// The command is done, with this status.
-pub fn completes(w: &mut Process, status: u32) -> Result<StepResult, AllocError> {
-    goes_to(w, Control::Status(status))
-}
-
-fn builtin_at(w: &mut Process, builtin: Builtin) -> Result<StepResult, AllocError> {
-    goes_to(w, Control::Builtin(builtin))
-}
-
-fn prints(w: &mut Process, bytes: Vec<u8>, then: Builtin) -> Result<StepResult, AllocError> {
-    goes_to(w, Control::Print(Printing { bytes, at: 0, then }))
-}
-
-/// It has to wait, and is as it was.
-pub fn stays_at(w: &mut Process, control: Control) -> Result<StepResult, AllocError> {
-    w.control = control;
-    Ok(StepResult::Waits)
-}
-
-fn waits(w: &mut Process, builtin: Builtin) -> Result<StepResult, AllocError> {
-    stays_at(w, Control::Builtin(builtin))
-}
-
-/// A line of these bytes.
-fn as_line(mut bytes: Vec<u8>) -> Result<Vec<u8>, AllocError> {
-    bytes.push(b'\n')?;
-    Ok(bytes)
+impl Progress {
+    /// It is done, with this status, and prints nothing more.
+    fn ends(status: u32) -> Progress {
+        Progress::Ends { line: None, status }
+    }
 }
 
 /// The first word, or a default.
@@ -63,434 +47,360 @@ fn first_or(
     }
 }
 
-/// rm: a file that isn't there is no error.
-fn remove_files(s: &mut System, names: &VecDeque<Vec<u8>>) {
-    for name in names.iter() {
-        remove_file(s, name.as_slice());
-    }
+/// echo prints its words.
+fn start_echo<'t>(heap: Global, words: &VecDeque<Vec<u8>>) -> Result<Step<'t>, AllocError> {
+    let line = joined_line(heap, words)?;
+    Ok(Step::prints(line, Builtin::Done(SUCCESS)))
 }
 
 /// cat copies the files that it is given, or what it reads.
-fn start_cat(
-    heap: Global,
-    w: &mut Process,
-    words: &mut VecDeque<Vec<u8>>,
-) -> Result<StepResult, AllocError> {
+fn start_cat<'t>(heap: Global, stdin: HandleId, words: &mut VecDeque<Vec<u8>>) -> Step<'t> {
     let names = std::mem::replace(words, VecDeque::new(heap));
-    let handle = if names.is_empty() {
-        Some(w.stdin)
-    } else {
-        None
-    };
-    builtin_at(w, Builtin::Cat { names, handle })
+    let handle = if names.is_empty() { Some(stdin) } else { None };
+    Step::works(Builtin::Cat { names, handle })
+}
+
+/// yes prints a line again and again.
+fn start_yes<'t>(heap: Global, words: &VecDeque<Vec<u8>>) -> Result<Step<'t>, AllocError> {
+    let line = as_line(first_or(heap, words, b"y")?)?;
+    Ok(Step::works(Builtin::Yes(line)))
 }
 
 /// seq n counts from 1, seq a b from a.
-fn start_seq(w: &mut Process, words: &VecDeque<Vec<u8>>) -> Result<StepResult, AllocError> {
-    let range = match (words.get(0), words.get(1), words.len()) {
-        (Some(n), None, _) => (Some(1), number(n.as_slice())),
-        (Some(a), Some(b), 2) => (number(a.as_slice()), number(b.as_slice())),
-        _ => (None, None),
-    };
-    match range {
-        (Some(from), Some(to)) => builtin_at(w, Builtin::Seq { from, to }),
-        _ => completes(w, 2),
+fn seq_range(words: &[Vec<u8>]) -> Option<RangeInclusive<u32>> {
+    match words {
+        [to] => Some(1..=number(to)?),
+        [from, to] => Some(number(from)?..=number(to)?),
+        _ => None,
     }
 }
 
 /// exit n and return n, modulo 256; without a word the last status.
-fn start_unwind(
-    heap: Global,
-    w: &mut Process,
-    kind: Unwind,
-    words: &VecDeque<Vec<u8>>,
-) -> Result<StepResult, AllocError> {
-    let last = decimal(heap, u64::from(w.status))?;
-    let word = first_or(heap, words, last.as_slice())?;
-    match number(word.as_slice()) {
-        Some(n) => goes_to(
-            w,
-            Control::Unwind {
-                kind,
-                status: n % 256,
-            },
-        ),
-        None => completes(w, 2),
+fn unwind_status(last: u32, words: &VecDeque<Vec<u8>>) -> Option<u32> {
+    match words.front() {
+        Some(word) => Some(number(word)? % 256),
+        None => Some(last % 256),
     }
 }
 
 /// head n, or 10
-fn start_head(
-    heap: Global,
-    w: &mut Process,
-    words: &VecDeque<Vec<u8>>,
-) -> Result<StepResult, AllocError> {
-    let word = first_or(heap, words, b"10")?;
-    match number(word.as_slice()) {
-        Some(n) => builtin_at(w, Builtin::Head(n)),
-        None => completes(w, 2),
+fn start_head<'t>(words: &VecDeque<Vec<u8>>) -> Step<'t> {
+    let lines = match words.front() {
+        Some(word) => number(word),
+        None => Some(10),
+    };
+    match lines {
+        Some(n) => Step::works(Builtin::Head(n)),
+        None => Step::completes(MISUSE),
     }
 }
 
 /// read x: a line into a variable; status 2 if that is no name.
-fn start_read(
-    heap: Global,
-    w: &mut Process,
-    words: &VecDeque<Vec<u8>>,
-) -> Result<StepResult, AllocError> {
+fn start_read<'t>(heap: Global, words: &VecDeque<Vec<u8>>) -> Result<Step<'t>, AllocError> {
     let name = first_or(heap, words, b"x")?;
-    if !valid_name(name.as_slice()) {
-        return completes(w, 2);
+    if !valid_name(&name) {
+        return Ok(Step::completes(MISUSE));
     }
-    builtin_at(
-        w,
-        Builtin::Read {
-            name,
-            line: Vec::new(heap),
-        },
-    )
+    let line = Vec::new(heap);
+    Ok(Step::works(Builtin::Read { name, line }))
 }
 
-/// The commands that read and print.
-pub fn run_builtin(
-    s: &mut System,
-    w: &mut Process,
-    name: &[u8],
-    words: &mut VecDeque<Vec<u8>>,
-) -> Result<StepResult, AllocError> {
-    let heap = s.heap;
-    if name == b"echo".as_slice() {
-        prints(w, joined_line(heap, words)?, Builtin::Done(0))
-    } else if name == b"cat".as_slice() {
-        start_cat(heap, w, words)
-    } else if name == b"head".as_slice() {
-        start_head(heap, w, words)
-    } else if name == b"wc".as_slice() {
-        builtin_at(w, Builtin::Wc { lines: 0, bytes: 0 })
-    } else if name == b"grep".as_slice() {
-        let pattern = first_or(heap, words, b"")?;
-        builtin_at(
-            w,
+/// grep prints the lines in which a text stands.
+fn start_grep<'t>(heap: Global, words: &VecDeque<Vec<u8>>) -> Result<Step<'t>, AllocError> {
+    Ok(Step::works(Builtin::Grep {
+        pattern: first_or(heap, words, b"")?,
+        line: Vec::new(heap),
+        found: false,
+    }))
+}
+
+fn start_seq<'t>(words: &[Vec<u8>]) -> Step<'t> {
+    match seq_range(words) {
+        Some(range) => Step::works(Builtin::Seq(range)),
+        None => Step::completes(MISUSE),
+    }
+}
+
+/// break and continue; exit n and return n, whose status is that modulo 256, or the last one. Anything else is no command.
+fn start_unwind<'t>(last: u32, name: &[u8], words: &VecDeque<Vec<u8>>) -> Step<'t> {
+    let status = unwind_status(last, words);
+    let unwind = match (name, status) {
+        (b"break", _) => Unwind::Break,
+        (b"continue", _) => Unwind::Continue,
+        (b"return", Some(status)) => Unwind::Return(status),
+        (b"exit", Some(status)) => Unwind::Exit(status),
+        (b"return" | b"exit", None) => return Step::completes(MISUSE),
+        _ => return Step::completes(NOT_FOUND),
+    };
+    Step::unwinds(unwind)
+}
+
+impl<'t> Runner<'t> {
+    /// The commands that read and print.
+    pub fn start_builtin(
+        &mut self,
+        process: &mut Process<'t>,
+        name: &[u8],
+        words: &mut VecDeque<Vec<u8>>,
+    ) -> Result<Step<'t>, AllocError> {
+        let heap = self.system.heap;
+        match name {
+            b"echo" => start_echo(heap, words),
+            b"cat" => Ok(start_cat(heap, process.streams.stdin, words)),
+            b"head" => Ok(start_head(words)),
+            b"wc" => Ok(Step::works(Builtin::Wc { lines: 0, bytes: 0 })),
+            b"grep" => start_grep(heap, words),
+            b"seq" => Ok(start_seq(words.make_contiguous())),
+            b"yes" => start_yes(heap, words),
+            b"read" => start_read(heap, words),
+            _ => Ok(self.do_at_once(process, name, words)),
+        }
+    }
+
+    /// The commands that are done in one move. Anything else has status 127.
+    fn do_at_once(
+        &mut self,
+        process: &mut Process<'t>,
+        name: &[u8],
+        words: &mut VecDeque<Vec<u8>>,
+    ) -> Step<'t> {
+        let status = match name {
+            b"rm" => self.remove_files(words),
+            b"true" => SUCCESS,
+            b"false" => FAILURE,
+            b"test" => test_status(&self.system, words.make_contiguous()),
+            b"shift" => process.shift(),
+            b"wait" => return self.wait_for_jobs(process),
+            _ => return start_unwind(process.environment.status, name, words),
+        };
+        Step::completes(status)
+    }
+
+    /// rm: a file that isn't there is no error.
+    fn remove_files(&mut self, names: &VecDeque<Vec<u8>>) -> u32 {
+        for name in names.iter() {
+            self.system.remove_file(name);
+        }
+        SUCCESS
+    }
+
+    /// It waits for all that were begun with & since it last did.
+    fn wait_for_jobs(&self, process: &mut Process<'t>) -> Step<'t> {
+        let none = Vec::new(self.system.heap);
+        Step::GoesTo(Control::Wait(std::mem::replace(&mut process.jobs, none)))
+    }
+
+    /// Writing to a pipe that nobody can read ends the process with 141.
+    pub fn print_byte(
+        &mut self,
+        process: &Process<'t>,
+        mut printing: Printing,
+    ) -> Result<Step<'t>, AllocError> {
+        let Some(byte) = printing.bytes.front().copied() else {
+            return Ok(Step::works(printing.then));
+        };
+        match self.write_byte(process, byte)? {
+            WriteByte::Wrote => {
+                let _ = printing.bytes.pop_front();
+                Ok(Step::GoesTo(Control::Print(printing)))
+            }
+            WriteByte::PipeFull => Ok(Step::Waits(Control::Print(printing))),
+            WriteByte::NoReader => Ok(Step::Exits(NO_READER)),
+        }
+    }
+
+    /// A move of a builtin.
+    pub fn step_builtin(
+        &mut self,
+        process: &mut Process<'t>,
+        mut builtin: Builtin,
+    ) -> Result<Step<'t>, AllocError> {
+        let step = match self.progress(process, &mut builtin)? {
+            Progress::Works => Step::works(builtin),
+            Progress::Prints(bytes) => Step::prints(bytes, builtin),
+            Progress::Ends { line, status } => match line {
+                Some(line) => Step::prints(line, Builtin::Done(status)),
+                None => Step::works(Builtin::Done(status)),
+            },
+            Progress::Completes(status) => Step::completes(status),
+            Progress::Waits => Step::Waits(Control::Builtin(builtin)),
+        };
+        Ok(step)
+    }
+
+    fn progress(
+        &mut self,
+        process: &mut Process<'t>,
+        builtin: &mut Builtin,
+    ) -> Result<Progress, AllocError> {
+        match builtin {
+            Builtin::Done(status) => Ok(Progress::Completes(*status)),
+            Builtin::Cat { names, handle } => self.step_cat(process, names, handle),
+            Builtin::Head(lines) => self.step_head(process, lines),
+            Builtin::Wc { lines, bytes } => self.step_wc(process, lines, bytes),
             Builtin::Grep {
                 pattern,
-                line: Vec::new(heap),
-                found: false,
-            },
-        )
-    } else if name == b"seq".as_slice() {
-        start_seq(w, words)
-    } else if name == b"yes".as_slice() {
-        builtin_at(w, Builtin::Yes(as_line(first_or(heap, words, b"y")?)?))
-    } else if name == b"read".as_slice() {
-        start_read(heap, w, words)
-    } else {
-        run_other(s, w, name, words)
-    }
-}
-
-/// The commands that are done in one move. Anything else has status 127.
-fn run_other(
-    s: &mut System,
-    w: &mut Process,
-    name: &[u8],
-    words: &VecDeque<Vec<u8>>,
-) -> Result<StepResult, AllocError> {
-    if name == b"rm".as_slice() {
-        remove_files(s, words);
-        completes(w, 0)
-    } else if name == b"true".as_slice() {
-        completes(w, 0)
-    } else if name == b"false".as_slice() {
-        completes(w, 1)
-    } else if name == b"test".as_slice() {
-        let status = test_status(s, words);
-        completes(w, status)
-    } else if name == b"exit".as_slice() {
-        start_unwind(s.heap, w, Unwind::Exit, words)
-    } else if name == b"return".as_slice() {
-        start_unwind(s.heap, w, Unwind::Return, words)
-    } else if name == b"break".as_slice() {
-        goes_to(
-            w,
-            Control::Unwind {
-                kind: Unwind::Break,
-                status: 0,
-            },
-        )
-    } else if name == b"continue".as_slice() {
-        goes_to(
-            w,
-            Control::Unwind {
-                kind: Unwind::Continue,
-                status: 0,
-            },
-        )
-    } else if name == b"shift".as_slice() {
-        let _ = w.arguments.pop_front();
-        completes(w, 0)
-    } else if name == b"wait".as_slice() {
-        let jobs = std::mem::replace(&mut w.jobs, Vec::new(s.heap));
-        goes_to(w, Control::Wait(jobs))
-    } else {
-        completes(w, 127)
-    }
-}
-
-/// Writing to a pipe that nobody can read ends the process with 141.
-pub fn print_byte(
-    s: &mut System,
-    w: &mut Process,
-    mut printing: Printing,
-) -> Result<StepResult, AllocError> {
-    let Some(byte) = printing.bytes.get(printing.at).copied() else {
-        return builtin_at(w, printing.then);
-    };
-    let stdout = w.stdout;
-    match write_byte(s, w, stdout, byte)? {
-        WriteByte::Wrote => {
-            printing.at = printing.at.saturating_add(1);
-            goes_to(w, Control::Print(printing))
+                line,
+                found,
+            } => self.step_grep(process, pattern, line, found),
+            Builtin::Seq(range) => step_seq(self.system.heap, range),
+            Builtin::Yes(line) => Ok(Progress::Prints(line.clone()?)),
+            Builtin::Read { name, line } => self.step_read(process, name, line),
         }
-        WriteByte::PipeFull => stays_at(w, Control::Print(printing)),
-        WriteByte::NoReader => Ok(StepResult::Exits(141)),
     }
-}
 
-/// cat stops at the first file that isn't there, with status 1.
-fn cat_next(
-    s: &mut System,
-    w: &mut Process,
-    mut names: VecDeque<Vec<u8>>,
-) -> Result<StepResult, AllocError> {
-    let Some(name) = names.pop_front() else {
-        return builtin_at(w, Builtin::Done(0));
-    };
-    if find_file(&s.files, name.as_slice()).is_none() {
-        return builtin_at(w, Builtin::Done(1));
-    }
-    let handle = open_handle(s, Handle::FileRead { name, at: 0 })?;
-    builtin_at(
-        w,
-        Builtin::Cat {
-            names,
-            handle: Some(handle),
-        },
-    )
-}
-
-fn step_cat(
-    s: &mut System,
-    w: &mut Process,
-    names: VecDeque<Vec<u8>>,
-    handle: Option<usize>,
-) -> Result<StepResult, AllocError> {
-    let Some(d) = handle else {
-        return cat_next(s, w, names);
-    };
-    match read_byte(s, w, d) {
-        ReadByte::Got(b) => prints(
-            w,
-            vec![in s.heap; b]?,
-            Builtin::Cat {
-                names,
-                handle: Some(d),
-            },
-        ),
-        ReadByte::AtEnd => builtin_at(
-            w,
-            Builtin::Cat {
-                names,
-                handle: None,
-            },
-        ),
-        ReadByte::MustWait => waits(
-            w,
-            Builtin::Cat {
-                names,
-                handle: Some(d),
-            },
-        ),
-    }
-}
-
-fn step_head(s: &mut System, w: &mut Process, n: u32) -> Result<StepResult, AllocError> {
-    if n == 0 {
-        return completes(w, 0);
-    }
-    let stdin = w.stdin;
-    match read_byte(s, w, stdin) {
-        ReadByte::Got(b) => {
-            let left = if b == b'\n' { n - 1 } else { n };
-            prints(w, vec![in s.heap; b]?, Builtin::Head(left))
+    /// cat opens its next file. It stops at the first that isn't there, with status 1.
+    fn open_next(
+        &mut self,
+        names: &mut VecDeque<Vec<u8>>,
+        handle: &mut Option<HandleId>,
+    ) -> Result<Progress, AllocError> {
+        let Some(name) = names.pop_front() else {
+            return Ok(Progress::ends(SUCCESS));
+        };
+        if !self.system.has_file(&name) {
+            return Ok(Progress::ends(FAILURE));
         }
-        ReadByte::AtEnd => completes(w, 0),
-        ReadByte::MustWait => waits(w, Builtin::Head(n)),
+        let file = Handle::FileRead(FileReader::new(name));
+        *handle = Some(self.system.open(file)?);
+        Ok(Progress::Works)
     }
-}
 
-fn step_wc(
-    s: &mut System,
-    w: &mut Process,
-    lines: u64,
-    bytes: u64,
-) -> Result<StepResult, AllocError> {
-    let stdin = w.stdin;
-    match read_byte(s, w, stdin) {
-        ReadByte::Got(b) => {
-            let lines = if b == b'\n' {
-                lines.saturating_add(1)
-            } else {
-                lines
-            };
-            builtin_at(
-                w,
-                Builtin::Wc {
-                    lines,
-                    bytes: bytes.saturating_add(1),
-                },
-            )
+    fn step_cat(
+        &mut self,
+        process: &Process<'t>,
+        names: &mut VecDeque<Vec<u8>>,
+        handle: &mut Option<HandleId>,
+    ) -> Result<Progress, AllocError> {
+        let Some(open) = *handle else {
+            return self.open_next(names, handle);
+        };
+        match self.read_byte(process, open) {
+            ReadByte::Got(byte) => Ok(Progress::Prints(vec![in self.system.heap; byte]?)),
+            ReadByte::AtEnd => {
+                *handle = None;
+                Ok(Progress::Works)
+            }
+            ReadByte::MustWait => Ok(Progress::Waits),
         }
-        ReadByte::AtEnd => {
-            let mut line = decimal(s.heap, lines)?;
-            line.push(b' ')?;
-            line.extend_from_slice(decimal(s.heap, bytes)?.as_slice())?;
-            prints(w, as_line(line)?, Builtin::Done(0))
-        }
-        ReadByte::MustWait => waits(w, Builtin::Wc { lines, bytes }),
     }
-}
 
-/// A line is whole: it is printed if the text stands in it, and the builtin goes on.
-fn grep_line(
-    w: &mut Process,
-    line: Vec<u8>,
-    has: bool,
-    then: Builtin,
-) -> Result<StepResult, AllocError> {
-    if has {
-        prints(w, as_line(line)?, then)
-    } else {
-        builtin_at(w, then)
+    fn step_head(
+        &mut self,
+        process: &Process<'t>,
+        lines: &mut u32,
+    ) -> Result<Progress, AllocError> {
+        if *lines == 0 {
+            return Ok(Progress::Completes(SUCCESS));
+        }
+        match self.read_byte(process, process.streams.stdin) {
+            ReadByte::Got(byte) => {
+                if byte == b'\n' {
+                    *lines -= 1;
+                }
+                Ok(Progress::Prints(vec![in self.system.heap; byte]?))
+            }
+            ReadByte::AtEnd => Ok(Progress::Completes(SUCCESS)),
+            ReadByte::MustWait => Ok(Progress::Waits),
+        }
+    }
+
+    fn step_wc(
+        &mut self,
+        process: &Process<'t>,
+        lines: &mut u64,
+        bytes: &mut u64,
+    ) -> Result<Progress, AllocError> {
+        match self.read_byte(process, process.streams.stdin) {
+            ReadByte::Got(byte) => {
+                *bytes = bytes.saturating_add(1);
+                if byte == b'\n' {
+                    *lines = lines.saturating_add(1);
+                }
+                Ok(Progress::Works)
+            }
+            ReadByte::AtEnd => {
+                let line = format!(in self.system.heap; "{lines} {bytes}\n")?;
+                Ok(Progress::Ends {
+                    line: Some(line.into_bytes()),
+                    status: SUCCESS,
+                })
+            }
+            ReadByte::MustWait => Ok(Progress::Waits),
+        }
+    }
+
+    fn step_grep(
+        &mut self,
+        process: &Process<'t>,
+        pattern: &[u8],
+        line: &mut Vec<u8>,
+        found: &mut bool,
+    ) -> Result<Progress, AllocError> {
+        match self.read_byte(process, process.streams.stdin) {
+            ReadByte::Got(b'\n') => {
+                let has = contains(pattern, line);
+                *found |= has;
+                let line = std::mem::replace(line, Vec::new(self.system.heap));
+                if has {
+                    Ok(Progress::Prints(as_line(line)?))
+                } else {
+                    Ok(Progress::Works)
+                }
+            }
+            ReadByte::Got(byte) => {
+                line.push(byte)?;
+                Ok(Progress::Works)
+            }
+            ReadByte::AtEnd => grep_last(self.system.heap, pattern, line, *found),
+            ReadByte::MustWait => Ok(Progress::Waits),
+        }
+    }
+
+    /// The status is 1 if the input ends in the line.
+    fn step_read(
+        &mut self,
+        process: &mut Process<'t>,
+        name: &[u8],
+        line: &mut Vec<u8>,
+    ) -> Result<Progress, AllocError> {
+        let heap = self.system.heap;
+        let status = match self.read_byte(process, process.streams.stdin) {
+            ReadByte::Got(b'\n') => SUCCESS,
+            ReadByte::Got(byte) => {
+                line.push(byte)?;
+                return Ok(Progress::Works);
+            }
+            ReadByte::AtEnd => FAILURE,
+            ReadByte::MustWait => return Ok(Progress::Waits),
+        };
+        let value = std::mem::replace(line, Vec::new(heap));
+        process.environment.set(heap, name, value)?;
+        Ok(Progress::Completes(status))
     }
 }
 
 /// A last line without an end is a line, if there is anything of it.
 fn grep_last(
-    w: &mut Process,
+    heap: Global,
     pattern: &[u8],
-    line: Vec<u8>,
+    line: &[u8],
     found: bool,
-) -> Result<StepResult, AllocError> {
-    let has = !line.is_empty() && contains(pattern, line.as_slice());
-    grep_line(w, line, has, Builtin::Done(status_of(found || has)))
+) -> Result<Progress, AllocError> {
+    let has = !line.is_empty() && contains(pattern, line);
+    let status = status_of(found || has);
+    let line = if has {
+        Some(as_line(line.to_vec(heap)?)?)
+    } else {
+        None
+    };
+    Ok(Progress::Ends { line, status })
 }
 
-fn step_grep(
-    s: &mut System,
-    w: &mut Process,
-    pattern: Vec<u8>,
-    mut line: Vec<u8>,
-    found: bool,
-) -> Result<StepResult, AllocError> {
-    let stdin = w.stdin;
-    match read_byte(s, w, stdin) {
-        ReadByte::Got(b'\n') => {
-            let has = contains(pattern.as_slice(), line.as_slice());
-            grep_line(
-                w,
-                line,
-                has,
-                Builtin::Grep {
-                    pattern,
-                    line: Vec::new(s.heap),
-                    found: found || has,
-                },
-            )
-        }
-        ReadByte::Got(b) => {
-            line.push(b)?;
-            builtin_at(
-                w,
-                Builtin::Grep {
-                    pattern,
-                    line,
-                    found,
-                },
-            )
-        }
-        ReadByte::AtEnd => grep_last(w, pattern.as_slice(), line, found),
-        ReadByte::MustWait => waits(
-            w,
-            Builtin::Grep {
-                pattern,
-                line,
-                found,
-            },
-        ),
-    }
-}
-
-fn step_seq(heap: Global, w: &mut Process, from: u32, to: u32) -> Result<StepResult, AllocError> {
-    if from > to {
-        return completes(w, 0);
-    }
-    let line = as_line(decimal(heap, u64::from(from))?)?;
-    prints(
-        w,
-        line,
-        Builtin::Seq {
-            from: from.saturating_add(1),
-            to,
-        },
-    )
-}
-
-/// The status is 1 if the input ends in the line.
-fn step_read(
-    s: &mut System,
-    w: &mut Process,
-    name: Vec<u8>,
-    mut line: Vec<u8>,
-) -> Result<StepResult, AllocError> {
-    let stdin = w.stdin;
-    match read_byte(s, w, stdin) {
-        ReadByte::Got(b'\n') => {
-            set_variable(w, s.heap, name.as_slice(), line)?;
-            completes(w, 0)
-        }
-        ReadByte::Got(b) => {
-            line.push(b)?;
-            builtin_at(w, Builtin::Read { name, line })
-        }
-        ReadByte::AtEnd => {
-            set_variable(w, s.heap, name.as_slice(), line)?;
-            completes(w, 1)
-        }
-        ReadByte::MustWait => waits(w, Builtin::Read { name, line }),
-    }
-}
-
-/// A move of a builtin.
-pub fn step_builtin(
-    s: &mut System,
-    w: &mut Process,
-    builtin: Builtin,
-) -> Result<StepResult, AllocError> {
-    match builtin {
-        Builtin::Done(status) => completes(w, status),
-        Builtin::Cat { names, handle } => step_cat(s, w, names, handle),
-        Builtin::Head(n) => step_head(s, w, n),
-        Builtin::Wc { lines, bytes } => step_wc(s, w, lines, bytes),
-        Builtin::Grep {
-            pattern,
-            line,
-            found,
-        } => step_grep(s, w, pattern, line, found),
-        Builtin::Seq { from, to } => step_seq(s.heap, w, from, to),
-        Builtin::Yes(line) => {
-            let bytes = line.clone()?;
-            prints(w, bytes, Builtin::Yes(line))
-        }
-        Builtin::Read { name, line } => step_read(s, w, name, line),
+/// The next number, as a line.
+fn step_seq(heap: Global, range: &mut RangeInclusive<u32>) -> Result<Progress, AllocError> {
+    match range.next() {
+        Some(n) => Ok(Progress::Prints(as_line(decimal(heap, u64::from(n))?)?)),
+        None => Ok(Progress::Completes(SUCCESS)),
     }
 }

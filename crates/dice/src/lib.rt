@@ -3,7 +3,11 @@
 #![tactic(auto)]
 
 mod builtins;
+mod control;
+mod process;
 pub mod run;
+mod runner;
 mod step;
 mod system;
+mod text;
 mod words;

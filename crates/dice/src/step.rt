@@ -1,836 +1,599 @@
 //! What a process does in one move.
 
-use crate::builtins::{
-    StepResult, completes, goes_to, print_byte, run_builtin, stays_at, step_builtin,
+use crate::control::{
+    AfterRedirects, Branches, Capture, Control, Expansion, For, Frame, Pid, Purpose, Simple, Step,
+    Unwind, While,
 };
-use crate::system::{
-    AfterRedirects, Capture, Control, Expansion, Frame, Function, Handle, Process, Purpose,
-    QuotedByte, ReadByte, System, Unwind, exit_status, find_file, function_body, make_file,
-    open_handle, push_frame, read_byte, set_variable,
-};
-use crate::words::{
-    all_pathnames, close_word, expand_word, expand_words, first_bytes, insert_bytes, insert_value,
-    matches_name, parameter_value,
-};
+use crate::process::Process;
+use crate::runner::{ReadByte, Runner};
+use crate::system::Streams;
+use crate::text::{FAILURE, QuotedByte, SUCCESS, bytes_of, has_pattern, matches_name, trim};
+use crate::words::WordBuilder;
 use dice_tree::tree::{
-    AndOr, Arms, Assignments, Bytes, Chain, Command, CommandList, Pipeline, RedirectKind,
-    Redirects, Tree, WordPart, Words,
+    Arm, Command, Compound, Item, Joined, Joiner, Joins, Pipeline, Redirect, RedirectKind, WordPart,
 };
-use std::alloc::AllocError;
+use std::alloc::{AllocError, Global};
 use std::collections::VecDeque;
 
-/// What a new process has to do.
-#[derive(Clone, Copy)]
-enum Task {
-    List(CommandList),
-    AndOr(AndOr),
-    Command(Command),
-}
-
-fn control_of(task: Task) -> Control {
-    match task {
-        Task::List(list) => Control::List(list),
-        Task::AndOr(and_or) => Control::AndOr(and_or),
-        Task::Command(command) => Control::Command(command),
-    }
-}
-
-/// A new process: like this one, with other things to do and other handles. It begins with the variables, functions,
-/// arguments and last status as they are, and with no jobs. Answers its number.
-fn spawn(
-    s: &mut System,
-    w: &Process,
-    task: Task,
-    stdin: usize,
-    stdout: usize,
-) -> Result<usize, AllocError> {
-    let pid = s.next_pid;
-    let made = Process {
-        pid,
-        control: control_of(task),
-        frames: Vec::new(s.heap),
-        stdin,
-        stdout,
-        variables: w.variables.clone()?,
-        functions: w.functions.clone()?,
-        arguments: w.arguments.clone()?,
-        status: w.status,
-        jobs: Vec::new(s.heap),
-    };
-    s.processes.push(made)?;
-    s.next_pid = pid.saturating_add(1);
-    Ok(pid)
-}
-
-/// A pipe and its two ends. Answers the handles, the one that is read first.
-fn new_pipe(s: &mut System) -> Result<(usize, usize), AllocError> {
-    let pipe = s.pipes.len();
-    s.pipes.push(VecDeque::new(s.heap))?;
-    let reading = open_handle(s, Handle::PipeRead(pipe))?;
-    let writing = open_handle(s, Handle::PipeWrite(pipe))?;
-    Ok((reading, writing))
-}
-
-/// A process for one command of a pipeline, and what the next one reads.
-fn spawn_member(
-    s: &mut System,
-    w: &Process,
-    command: Command,
-    stdin: usize,
-    last: bool,
-) -> Result<(usize, usize), AllocError> {
-    if last {
-        let pid = spawn(s, w, Task::Command(command), stdin, w.stdout)?;
-        return Ok((pid, stdin));
-    }
-    let (reading, writing) = new_pipe(s)?;
-    let pid = spawn(s, w, Task::Command(command), stdin, writing)?;
-    Ok((pid, reading))
-}
-
-/// A process for each command of a pipeline, all at once, each reading the pipe that the one before writes.
-fn spawn_pipeline(
-    s: &mut System,
-    tree: &Tree,
-    w: &Process,
-    pipeline: Pipeline,
-) -> Result<Vec<usize>, AllocError> {
-    let mut pids = Vec::new(s.heap);
-    let mut stdin = w.stdin;
-    for i in pipeline.from..pipeline.to {
-        let Some(command) = tree.commands.get(i) else {
-            break;
-        };
-        let (pid, next) = spawn_member(s, w, *command, stdin, i + 1 == pipeline.to)?;
-        pids.push(pid)?;
-        stdin = next;
-    }
-    Ok(pids)
-}
-
-/// What $( ) stands for: what was printed, without the ends of lines at its end.
-fn trim(mut bytes: Vec<u8>) -> Vec<u8> {
-    for _ in 0..bytes.len() {
-        if bytes.last().copied() != Some(b'\n') {
-            break;
-        }
-        let _ = bytes.pop();
-    }
-    bytes
-}
-
-/// The first word names a function, or else a builtin; no words at all have status 0.
-fn invoke(
-    s: &mut System,
-    w: &mut Process,
-    mut words: VecDeque<Vec<u8>>,
-) -> Result<StepResult, AllocError> {
-    let Some(name) = words.pop_front() else {
-        return completes(w, 0);
-    };
-    let Some(body) = function_body(&w.functions, name.as_slice()) else {
-        return run_builtin(s, w, name.as_slice(), &mut words);
-    };
-    let before = std::mem::replace(&mut w.arguments, words);
-    push_frame(w, Frame::Arguments(before))?;
-    goes_to(w, Control::List(body))
-}
-
-/// A redirection's word is expanded: its file is opened. A file that is read has to be there, else the command is not
-/// done and has status 1; those that are written are made if need be.
-fn apply_redirect(
-    s: &mut System,
-    w: &mut Process,
-    kind: RedirectKind,
-    name: Vec<u8>,
-    rest: Redirects,
-    then: AfterRedirects,
-) -> Result<StepResult, AllocError> {
-    match kind {
-        RedirectKind::Input if find_file(&s.files, name.as_slice()).is_none() => return completes(
-            w, 1,
-        ),
-        RedirectKind::Input => w.stdin = open_handle(s, Handle::FileRead { name, at: 0 })?,
-        RedirectKind::Output | RedirectKind::Append => {
-            make_file(s, name.as_slice(), matches!(kind, RedirectKind::Output))?;
-            w.stdout = open_handle(s, Handle::FileAppend { name })?;
-        }
-        RedirectKind::Here => w.stdin = open_handle(s, Handle::HereText { bytes: name, at: 0 })?,
-    }
-    goes_to(
-        w,
-        Control::Redirects {
-            redirects: rest,
-            then,
-        },
-    )
-}
-
 /// name=word from the left, each holding from then on; then the words.
-fn step_assignments(
-    s: &System,
-    tree: &Tree,
-    w: &mut Process,
-    assignments: Assignments,
-    words: Words,
-    redirects: Redirects,
-) -> Result<StepResult, AllocError> {
-    let Some((i, rest)) = assignments.split_first() else {
-        return goes_to(
-            w,
-            Control::Words(expand_words(s.heap, tree, words, Purpose::Invoke { redirects })),
-        );
-    };
-    let Some(assignment) = tree.assignments.get(i) else {
-        return completes(w, 0);
-    };
-    let purpose = Purpose::Assign {
-        name: assignment.name,
-        rest,
+fn step_simple<'t>(heap: Global, simple: Simple<'t>) -> Step<'t> {
+    let Simple {
+        assignments,
         words,
         redirects,
+    } = simple;
+    let Some((assignment, assignments)) = assignments.split_first() else {
+        return Step::expands(heap, words, Purpose::Invoke { redirects });
     };
-    goes_to(
-        w,
-        Control::Words(expand_word(s.heap, assignment.word, purpose)),
-    )
+    let rest = Simple {
+        assignments,
+        ..simple
+    };
+    let name = assignment.name.as_slice();
+    Step::expands_one(heap, &assignment.word, Purpose::Assign { name, rest })
 }
 
 /// The arms of a case, until one matches; status 0 if none does.
-fn step_arms(
-    s: &System,
-    tree: &Tree,
-    w: &mut Process,
-    subject: Vec<u8>,
-    arms: Arms,
-) -> Result<StepResult, AllocError> {
-    let Some((i, rest)) = arms.split_first() else {
-        return completes(w, 0);
+fn step_arms<'t>(heap: Global, subject: Vec<u8>, arms: &'t [Arm]) -> Step<'t> {
+    let Some((arm, rest)) = arms.split_first() else {
+        return Step::completes(SUCCESS);
     };
-    let Some(arm) = tree.arms.get(i) else {
-        return completes(w, 0);
-    };
+    let list = arm.list.as_slice();
     let purpose = Purpose::Match {
         subject,
-        list: arm.list,
+        list,
         rest,
     };
-    goes_to(w, Control::Words(expand_word(s.heap, arm.pattern, purpose)))
+    Step::expands_one(heap, &arm.pattern, purpose)
 }
 
-/// The next round of a for: its variable is set, and its list is done. Where no word is left the status is given.
-fn step_for(
-    s: &System,
-    tree: &Tree,
-    w: &mut Process,
-    name: Bytes,
-    mut words: VecDeque<Vec<u8>>,
-    body: CommandList,
-    status: u32,
-) -> Result<StepResult, AllocError> {
-    let Some(word) = words.pop_front() else {
-        return completes(w, status);
-    };
-    set_variable(w, s.heap, tree.bytes(name), word)?;
-    push_frame(w, Frame::For { name, words, body })?;
-    goes_to(w, Control::List(body))
+/// The word of a case is expanded: its first arm.
+fn select<'t>(heap: Global, built: &WordBuilder, arms: &'t [Arm]) -> Result<Step<'t>, AllocError> {
+    Ok(step_arms(heap, built.first_bytes()?, arms))
 }
 
-/// The pattern of an arm is expanded: its list is done if it matches, else the next arm is tried.
-fn step_match(
-    s: &System,
-    tree: &Tree,
-    w: &mut Process,
-    words: &Vec<Vec<QuotedByte>>,
+/// The pattern of an arm is expanded: its list is done if it matches, else the next arm is tried. No word is the empty
+/// pattern.
+fn step_match<'t>(
+    heap: Global,
+    built: &WordBuilder,
     subject: Vec<u8>,
-    list: CommandList,
-    rest: Arms,
-) -> Result<StepResult, AllocError> {
-    let matched = match words.first() {
-        Some(pattern) => matches_name(s.heap, pattern, subject.as_slice())?,
+    list: &'t [Item],
+    rest: &'t [Arm],
+) -> Result<Step<'t>, AllocError> {
+    let matches = match built.complete().first() {
+        Some(pattern) => matches_name(heap, pattern, &subject)?,
         None => subject.is_empty(),
     };
-    if matched {
-        goes_to(w, Control::List(list))
+    Ok(if matches {
+        Step::GoesTo(Control::List(list))
     } else {
-        step_arms(s, tree, w, subject, rest)
-    }
-}
-
-/// All words are expanded: what they are for.
-fn expanded(
-    s: &mut System,
-    tree: &Tree,
-    w: &mut Process,
-    words: Vec<Vec<QuotedByte>>,
-    purpose: Purpose,
-) -> Result<StepResult, AllocError> {
-    match purpose {
-        Purpose::Assign {
-            name,
-            rest,
-            words: next,
-            redirects,
-        } => {
-            let value = first_bytes(s.heap, &words)?;
-            set_variable(w, s.heap, tree.bytes(name), value)?;
-            step_assignments(s, tree, w, rest, next, redirects)
-        }
-        Purpose::Invoke { redirects } => {
-            let all = all_pathnames(s, &words)?;
-            push_frame(
-                w,
-                Frame::Handles {
-                    stdin: w.stdin,
-                    stdout: w.stdout,
-                },
-            )?;
-            goes_to(
-                w,
-                Control::Redirects {
-                    redirects,
-                    then: AfterRedirects::Invoke(all),
-                },
-            )
-        }
-        Purpose::Redirect { kind, rest, then } => {
-            let name = first_bytes(s.heap, &words)?;
-            apply_redirect(s, w, kind, name, rest, then)
-        }
-        Purpose::Loop { name, body } => {
-            let all = all_pathnames(s, &words)?;
-            step_for(s, tree, w, name, all, body, 0)
-        }
-        Purpose::Select { arms } => {
-            let subject = first_bytes(s.heap, &words)?;
-            step_arms(s, tree, w, subject, arms)
-        }
-        Purpose::Match {
-            subject,
-            list,
-            rest,
-        } => step_match(s, tree, w, &words, subject, list, rest),
-    }
-}
-
-/// The word is complete: the next one, if there is one.
-fn next_word(
-    s: &mut System,
-    tree: &Tree,
-    w: &mut Process,
-    mut x: Expansion,
-) -> Result<StepResult, AllocError> {
-    close_word(&mut x)?;
-    let Some((i, rest)) = x.words.split_first() else {
-        let Expansion {
-            complete,
-            purpose,
-            ..
-        } = x;
-        return expanded(s, tree, w, complete, purpose);
-    };
-    x.words = rest;
-    x.parts = tree.words.get(i).copied().unwrap_or(Chain::empty());
-    goes_to(w, Control::Words(x))
-}
-
-/// A part that is bytes or a parameter comes into the word.
-fn insert_part(
-    s: &System,
-    tree: &Tree,
-    w: &Process,
-    x: &mut Expansion,
-    part: WordPart,
-) -> Result<(), AllocError> {
-    match part {
-        WordPart::Literal { quoted, bytes } => insert_bytes(s.heap, x, quoted, tree.bytes(bytes)),
-        WordPart::Parameter { quoted, name } => {
-            let value = parameter_value(s.heap, w, tree.bytes(name))?;
-            insert_value(s.heap, x, quoted, value.as_slice())
-        }
-        WordPart::Substitution { .. } => Ok(()),
-    }
-}
-
-/// A $( ) is a process of its own that writes to a pipe.
-fn start_capture(
-    s: &mut System,
-    w: &mut Process,
-    list: CommandList,
-    quoted: bool,
-    x: Expansion,
-) -> Result<StepResult, AllocError> {
-    let (handle, writing) = new_pipe(s)?;
-    let stdin = w.stdin;
-    let _ = spawn(s, w, Task::List(list), stdin, writing)?;
-    goes_to(
-        w,
-        Control::Capture(Capture {
-            handle,
-            bytes: Vec::new(s.heap),
-            quoted,
-            expansion: x,
-        }),
-    )
-}
-
-/// One part of a word.
-fn step_expansion(
-    s: &mut System,
-    tree: &Tree,
-    w: &mut Process,
-    mut x: Expansion,
-) -> Result<StepResult, AllocError> {
-    let Some((i, rest)) = x.parts.split_first() else {
-        return next_word(s, tree, w, x);
-    };
-    x.parts = rest;
-    let Some(part) = tree.parts.get(i).copied() else {
-        return goes_to(w, Control::Words(x));
-    };
-    if let WordPart::Substitution { quoted, list } = part {
-        return start_capture(s, w, list, quoted, x);
-    }
-    insert_part(s, tree, w, &mut x, part)?;
-    goes_to(w, Control::Words(x))
-}
-
-/// Redirections from the left, then what they are for.
-fn step_redirects(
-    s: &mut System,
-    tree: &Tree,
-    w: &mut Process,
-    redirects: Redirects,
-    then: AfterRedirects,
-) -> Result<StepResult, AllocError> {
-    let Some((i, rest)) = redirects.split_first() else {
-        return match then {
-            AfterRedirects::Invoke(words) => invoke(s, w, words),
-            AfterRedirects::Command(command) => goes_to(w, Control::Command(command)),
-        };
-    };
-    let Some(redirect) = tree.redirects.get(i) else {
-        return completes(w, 0);
-    };
-    let purpose = Purpose::Redirect {
-        kind: redirect.kind,
-        rest,
-        then,
-    };
-    goes_to(
-        w,
-        Control::Words(expand_word(s.heap, redirect.word, purpose)),
-    )
-}
-
-/// The redirections of a command that isn't simple, and the command without them.
-fn without_redirects(command: Command) -> (Redirects, Command) {
-    let none = Chain::empty();
-    match command {
-        Command::Group { list, redirects } => (
-            redirects,
-            Command::Group {
-                list,
-                redirects: none,
-            },
-        ),
-        Command::Subshell { list, redirects } => (
-            redirects,
-            Command::Subshell {
-                list,
-                redirects: none,
-            },
-        ),
-        Command::If {
-            condition,
-            then,
-            otherwise,
-            redirects,
-        } => {
-            (
-                redirects,
-                Command::If {
-                    condition,
-                    then,
-                    otherwise,
-                    redirects: none,
-                },
-            )
-        }
-        Command::While {
-            condition,
-            body,
-            redirects,
-        } => (
-            redirects,
-            Command::While {
-                condition,
-                body,
-                redirects: none,
-            },
-        ),
-        Command::For {
-            name,
-            words,
-            body,
-            redirects,
-        } => (
-            redirects,
-            Command::For {
-                name,
-                words,
-                body,
-                redirects: none,
-            },
-        ),
-        Command::Case {
-            word,
-            arms,
-            redirects,
-        } => (
-            redirects,
-            Command::Case {
-                word,
-                arms,
-                redirects: none,
-            },
-        ),
-        Command::Simple { .. } | Command::Function { .. } => (none, command),
-    }
-}
-
-/// A command that isn't simple makes its redirections first; what was open before is open again after it.
-fn step_command(
-    s: &mut System,
-    tree: &Tree,
-    w: &mut Process,
-    command: Command,
-) -> Result<StepResult, AllocError> {
-    let (redirects, bare) = without_redirects(command);
-    if !redirects.is_empty() {
-        push_frame(
-            w,
-            Frame::Handles {
-                stdin: w.stdin,
-                stdout: w.stdout,
-            },
-        )?;
-        return goes_to(
-            w,
-            Control::Redirects {
-                redirects,
-                then: AfterRedirects::Command(bare),
-            },
-        );
-    }
-    step_bare(s, tree, w, bare)
-}
-
-/// A command whose redirections are made.
-fn step_bare(
-    s: &mut System,
-    tree: &Tree,
-    w: &mut Process,
-    command: Command,
-) -> Result<StepResult, AllocError> {
-    match command {
-        Command::Simple {
-            assignments,
-            words,
-            redirects,
-        } => step_assignments(s, tree, w, assignments, words, redirects),
-        Command::Group { list, .. } => goes_to(w, Control::List(list)),
-        Command::Subshell { list, .. } => {
-            let pid = spawn(s, w, Task::List(list), w.stdin, w.stdout)?;
-            goes_to(w, Control::Wait(vec![in s.heap; pid]?))
-        }
-        Command::If {
-            condition,
-            then,
-            otherwise,
-            ..
-        } => {
-            push_frame(w, Frame::If { then, otherwise })?;
-            goes_to(w, Control::List(condition))
-        }
-        Command::While {
-            condition,
-            body,
-            ..
-        } => {
-            push_frame(w, Frame::Condition { condition, body })?;
-            goes_to(w, Control::List(condition))
-        }
-        Command::For {
-            name,
-            words,
-            body,
-            ..
-        } => {
-            goes_to(
-                w,
-                Control::Words(expand_words(s.heap, tree, words, Purpose::Loop { name, body })),
-            )
-        }
-        Command::Case { word, arms, .. } => {
-            goes_to(
-                w,
-                Control::Words(expand_word(s.heap, word, Purpose::Select { arms })),
-            )
-        }
-        Command::Function { name, body } => {
-            w.functions.push(Function {
-                name: tree.bytes(name).to_vec(s.heap)?,
-                body,
-            })?;
-            completes(w, 0)
-        }
-    }
-}
-
-/// A command alone is done by this process, those between pipes by processes of their own that it waits for.
-fn step_pipeline(
-    s: &mut System,
-    tree: &Tree,
-    w: &mut Process,
-    negated: bool,
-    pipeline: Pipeline,
-) -> Result<StepResult, AllocError> {
-    if negated {
-        push_frame(w, Frame::Not)?;
-    }
-    if pipeline.len() > 1 {
-        let pids = spawn_pipeline(s, tree, w, pipeline)?;
-        return goes_to(w, Control::Wait(pids));
-    }
-    match tree.commands.get(pipeline.from) {
-        Some(command) => goes_to(w, Control::Command(*command)),
-        None => completes(w, 0),
-    }
-}
-
-/// The last of several comes after those before it.
-fn step_and_or(tree: &Tree, w: &mut Process, and_or: AndOr) -> Result<StepResult, AllocError> {
-    let Some((i, before)) = and_or.split_last() else {
-        return completes(w, 0);
-    };
-    let Some(joined) = tree.pipelines.get(i) else {
-        return completes(w, 0);
-    };
-    let negated = joined.negated;
-    let pipeline = joined.pipeline;
-    if before.is_empty() {
-        return goes_to(w, Control::Pipeline { negated, pipeline });
-    }
-    push_frame(
-        w,
-        Frame::AndOr {
-            and: joined.and,
-            negated,
-            pipeline,
-        },
-    )?;
-    goes_to(w, Control::AndOr(before))
-}
-
-/// An empty list has the last status; what is begun with & has status 0 at first.
-fn step_list(
-    s: &mut System,
-    tree: &Tree,
-    w: &mut Process,
-    list: CommandList,
-) -> Result<StepResult, AllocError> {
-    let Some((i, rest)) = list.split_first() else {
-        return completes(w, w.status);
-    };
-    let Some(item) = tree.items.get(i) else {
-        return completes(w, w.status);
-    };
-    if !item.background {
-        push_frame(w, Frame::List(rest))?;
-        return goes_to(w, Control::AndOr(item.and_or));
-    }
-    let pid = spawn(s, w, Task::AndOr(item.and_or), w.stdin, w.stdout)?;
-    w.jobs.push(pid)?;
-    w.status = 0;
-    goes_to(w, Control::List(rest))
+        step_arms(heap, subject, rest)
+    })
 }
 
 /// A condition is done. An if of which no branch is taken has status 0; an else that is there is a branch.
-fn step_if(
-    w: &mut Process,
-    status: u32,
-    then: CommandList,
-    otherwise: Option<CommandList>,
-) -> Result<StepResult, AllocError> {
-    match otherwise {
-        _ if status == 0 => goes_to(w, Control::List(then)),
-        Some(list) => goes_to(w, Control::List(list)),
-        None => completes(w, 0),
+fn step_branches<'t>(branches: Branches<'t>, status: u32) -> Step<'t> {
+    match branches.otherwise {
+        _ if status == SUCCESS => Step::GoesTo(Control::List(branches.then)),
+        Some(list) => Step::GoesTo(Control::List(list)),
+        None => Step::completes(SUCCESS),
     }
 }
 
-/// A command is done with a status: the innermost frame.
-fn step_status(
-    s: &mut System,
-    tree: &Tree,
-    w: &mut Process,
-    status: u32,
-) -> Result<StepResult, AllocError> {
-    w.status = status;
-    let Some(frame) = w.frames.pop() else {
-        return Ok(StepResult::Exits(status));
-    };
-    match frame {
-        Frame::List(rest) if rest.is_empty() => completes(w, status),
-        Frame::List(rest) => goes_to(w, Control::List(rest)),
-        Frame::AndOr {
-            and,
-            negated,
-            pipeline,
-        } if and == (status == 0) => { goes_to(w, Control::Pipeline { negated, pipeline }) }
-        Frame::AndOr { .. } => completes(w, status),
-        Frame::Not => completes(w, if status == 0 { 1 } else { 0 }),
-        Frame::If { then, otherwise } => step_if(w, status, then, otherwise),
-        Frame::Condition { .. } if status != 0 => completes(w, 0),
-        Frame::Condition { condition, body } => {
-            push_frame(w, Frame::Body { condition, body })?;
-            goes_to(w, Control::List(body))
-        }
-        Frame::Body { condition, body } => {
-            push_frame(w, Frame::Condition { condition, body })?;
-            goes_to(w, Control::List(condition))
-        }
-        Frame::For { name, words, body } => step_for(s, tree, w, name, words, body, status),
-        Frame::Handles { stdin, stdout } => {
-            w.stdin = stdin;
-            w.stdout = stdout;
-            completes(w, status)
-        }
-        Frame::Arguments(before) => {
-            w.arguments = before;
-            completes(w, status)
-        }
+/// What stands behind && or || is done or not.
+fn step_joined<'t>(joined: &'t Joined, status: u32) -> Step<'t> {
+    if (joined.joiner == Joiner::And) == (status == SUCCESS) {
+        Step::GoesTo(Control::Pipeline(&joined.pipeline))
+    } else {
+        Step::completes(status)
     }
 }
 
-/// break, continue, return or exit meets a while.
-fn unwind_while(
-    w: &mut Process,
-    kind: Unwind,
-    status: u32,
-    condition: CommandList,
-    body: CommandList,
-) -> Result<StepResult, AllocError> {
-    match kind {
-        Unwind::Break => completes(w, 0),
-        Unwind::Continue => {
-            push_frame(w, Frame::Condition { condition, body })?;
-            goes_to(w, Control::List(condition))
-        }
-        Unwind::Return | Unwind::Exit => goes_to(w, Control::Unwind { kind, status }),
+impl<'t> Process<'t> {
+    /// It does this, and goes on behind it with that frame.
+    fn enters(&mut self, frame: Frame<'t>, control: Control<'t>) -> Result<Step<'t>, AllocError> {
+        self.frames.push(frame)?;
+        Ok(Step::GoesTo(control))
     }
-}
 
-/// break, continue, return, exit go outward: break and continue to the innermost loop, or out of a function if that is
-/// nearer; return out of the innermost function. Where there is nothing to go out of, the process ends.
-fn step_unwind(w: &mut Process, kind: Unwind, status: u32) -> Result<StepResult, AllocError> {
-    let Some(frame) = w.frames.pop() else {
-        return Ok(StepResult::Exits(status));
-    };
-    match frame {
-        Frame::Condition { condition, body } | Frame::Body { condition, body } => {
-            unwind_while(w, kind, status, condition, body)
+    fn enters_condition(&mut self, round: While<'t>) -> Result<Step<'t>, AllocError> {
+        self.enters(Frame::Condition(round), Control::List(round.condition))
+    }
+
+    /// The next round of a for: its variable is set, and its list is done. Where no word is left the status is given.
+    fn step_for(
+        &mut self,
+        heap: Global,
+        of: For<'t>,
+        mut words: VecDeque<Vec<u8>>,
+        status: u32,
+    ) -> Result<Step<'t>, AllocError> {
+        let Some(word) = words.pop_front() else {
+            return Ok(Step::completes(status));
+        };
+        self.environment.set(heap, of.name, word)?;
+        self.enters(Frame::For { of, words }, Control::List(of.body))
+    }
+
+    /// The last of several comes after those before it.
+    fn step_and_or(&mut self, joins: Joins<'t>) -> Result<Step<'t>, AllocError> {
+        match joins.split_last() {
+            Some((last, before)) => self.enters(Frame::AndOr(last), Control::AndOr(before)),
+            None => Ok(Step::GoesTo(Control::Pipeline(joins.first))),
         }
-        Frame::For { name, words, body } => match kind {
-            Unwind::Break => completes(w, 0),
-            Unwind::Continue => {
-                push_frame(w, Frame::For { name, words, body })?;
-                completes(w, 0)
+    }
+
+    /// Redirections are made first; what was open before is open again after the command.
+    fn enters_redirects(
+        &mut self,
+        redirects: &'t [Redirect],
+        then: AfterRedirects<'t>,
+    ) -> Result<Step<'t>, AllocError> {
+        let control = Control::Redirects { redirects, then };
+        self.enters(Frame::Streams(self.streams), control)
+    }
+
+    /// The word of an assignment is expanded: it is made, and then what comes behind it.
+    fn assign(
+        &mut self,
+        heap: Global,
+        name: &[u8],
+        built: &WordBuilder,
+        rest: Simple<'t>,
+    ) -> Result<Step<'t>, AllocError> {
+        self.environment.set(heap, name, built.first_bytes()?)?;
+        Ok(step_simple(heap, rest))
+    }
+
+    /// A function is defined.
+    fn define(
+        &mut self,
+        heap: Global,
+        name: &[u8],
+        body: &'t [Item],
+    ) -> Result<Step<'t>, AllocError> {
+        self.environment.define(heap, name, body)?;
+        Ok(Step::completes(SUCCESS))
+    }
+
+    /// A command is done with a status: the innermost frame.
+    fn step_status(&mut self, heap: Global, status: u32) -> Result<Step<'t>, AllocError> {
+        self.environment.status = status;
+        let Some(frame) = self.frames.pop() else {
+            return Ok(Step::Exits(status));
+        };
+        let step = match frame {
+            Frame::List([]) => Step::completes(status),
+            Frame::List(rest) => Step::GoesTo(Control::List(rest)),
+            Frame::AndOr(joined) => step_joined(joined, status),
+            Frame::Not => Step::completes(if status == SUCCESS { FAILURE } else { SUCCESS }),
+            Frame::If(branches) => step_branches(branches, status),
+            Frame::Condition(_) if status != SUCCESS => Step::completes(SUCCESS),
+            Frame::Condition(round) => {
+                return self.enters(Frame::Body(round), Control::List(round.body));
             }
-            Unwind::Return | Unwind::Exit => goes_to(w, Control::Unwind { kind, status }),
-        },
-        Frame::Handles { stdin, stdout } => {
-            w.stdin = stdin;
-            w.stdout = stdout;
-            goes_to(w, Control::Unwind { kind, status })
-        }
-        Frame::Arguments(before) => {
-            w.arguments = before;
-            match kind {
-                Unwind::Exit => goes_to(w, Control::Unwind { kind, status }),
-                Unwind::Break | Unwind::Continue | Unwind::Return => completes(w, status),
+            Frame::Body(round) => return self.enters_condition(round),
+            Frame::For { of, words } => return self.step_for(heap, of, words, status),
+            Frame::Streams(streams) => {
+                self.streams = streams;
+                Step::completes(status)
+            }
+            Frame::Arguments(before) => {
+                self.environment.arguments = before;
+                Step::completes(status)
+            }
+        };
+        Ok(step)
+    }
+
+    /// break, continue, return, exit go outward: break and continue to the innermost loop, or out of a function if that
+    /// is nearer; return out of the innermost function. Where there is nothing to go out of, the process ends.
+    fn step_unwind(&mut self, unwind: Unwind) -> Result<Step<'t>, AllocError> {
+        let Some(frame) = self.frames.pop() else {
+            return Ok(Step::Exits(unwind.status()));
+        };
+        match frame {
+            Frame::Condition(round) | Frame::Body(round) => match unwind {
+                Unwind::Break => Ok(Step::completes(SUCCESS)),
+                Unwind::Continue => self.enters_condition(round),
+                Unwind::Return(_) | Unwind::Exit(_) => Ok(Step::unwinds(unwind)),
+            },
+            Frame::For { of, words } => match unwind {
+                Unwind::Break => Ok(Step::completes(SUCCESS)),
+                Unwind::Continue => {
+                    self.enters(Frame::For { of, words }, Control::Status(SUCCESS))
+                }
+                Unwind::Return(_) | Unwind::Exit(_) => Ok(Step::unwinds(unwind)),
+            },
+            Frame::Streams(streams) => {
+                self.streams = streams;
+                Ok(Step::unwinds(unwind))
+            }
+            Frame::Arguments(before) => {
+                self.environment.arguments = before;
+                match unwind {
+                    Unwind::Exit(_) => Ok(Step::unwinds(unwind)),
+                    _ => Ok(Step::completes(unwind.status())),
+                }
+            }
+            Frame::List(_) | Frame::AndOr(_) | Frame::Not | Frame::If(_) => {
+                Ok(Step::unwinds(unwind))
             }
         }
-        Frame::List(_) | Frame::AndOr { .. } | Frame::Not | Frame::If { .. } => goes_to(
-            w,
-            Control::Unwind { kind, status },
-        ),
     }
 }
 
-/// The status of the last of these processes, if all have exited; 0 if there is none.
-fn last_status(s: &System, pids: &Vec<usize>) -> Option<u32> {
-    let mut last = 0;
-    for pid in pids.iter() {
-        last = exit_status(&s.exited, *pid)?;
-    }
-    Some(last)
-}
-
-/// Waiting for others: a step only if all have exited; then the last one's status.
-fn step_wait(s: &System, w: &mut Process, pids: Vec<usize>) -> Result<StepResult, AllocError> {
-    match last_status(s, &pids) {
-        Some(status) => completes(w, status),
-        None => stays_at(w, Control::Wait(pids)),
-    }
-}
-
-/// What was printed comes into the word, without the ends of lines at its end.
-fn captured(s: &System, w: &mut Process, capture: Capture) -> Result<StepResult, AllocError> {
-    let Capture {
-        handle: _,
-        bytes,
-        quoted,
-        mut expansion,
-    } = capture;
-    let value = trim(bytes);
-    insert_value(s.heap, &mut expansion, quoted, value.as_slice())?;
-    goes_to(w, Control::Words(expansion))
-}
-
-/// $( ) is read until nobody can write to it any more.
-fn step_capture(
-    s: &mut System,
-    w: &mut Process,
-    mut capture: Capture,
-) -> Result<StepResult, AllocError> {
-    match read_byte(s, w, capture.handle) {
-        ReadByte::Got(b) => {
-            capture.bytes.push(b)?;
-            goes_to(w, Control::Capture(capture))
+impl<'t> Runner<'t> {
+    /// An empty list has the last status; what is begun with & has status 0 at first.
+    fn step_list(
+        &mut self,
+        process: &mut Process<'t>,
+        list: &'t [Item],
+    ) -> Result<Step<'t>, AllocError> {
+        let Some((item, rest)) = list.split_first() else {
+            return Ok(Step::completes(process.environment.status));
+        };
+        let control = Control::AndOr(item.and_or.joins());
+        if !item.background {
+            return process.enters(Frame::List(rest), control);
         }
-        ReadByte::AtEnd => captured(s, w, capture),
-        ReadByte::MustWait => stays_at(w, Control::Capture(capture)),
+        let pid = self.spawn(process, control, process.streams)?;
+        process.jobs.push(pid)?;
+        process.environment.status = SUCCESS;
+        Ok(Step::GoesTo(Control::List(rest)))
     }
-}
 
-/// The step of a process, if it can take one now. The process stands beside the system while it moves, and its control
-/// is taken apart: what a cat reads is its input or a file, so that nobody's pipe seems closed by that.
-pub fn step(s: &mut System, tree: &Tree, w: &mut Process) -> Result<StepResult, AllocError> {
-    let control = std::mem::replace(&mut w.control, Control::Status(0));
-    match control {
-        Control::List(list) => step_list(s, tree, w, list),
-        Control::AndOr(and_or) => step_and_or(tree, w, and_or),
-        Control::Pipeline { negated, pipeline } => step_pipeline(s, tree, w, negated, pipeline),
-        Control::Command(command) => step_command(s, tree, w, command),
-        Control::Words(expansion) => step_expansion(s, tree, w, expansion),
-        Control::Redirects { redirects, then } => step_redirects(s, tree, w, redirects, then),
-        Control::Builtin(builtin) => step_builtin(s, w, builtin),
-        Control::Print(printing) => print_byte(s, w, printing),
-        Control::Status(status) => step_status(s, tree, w, status),
-        Control::Unwind { kind, status } => step_unwind(w, kind, status),
-        Control::Wait(pids) => step_wait(s, w, pids),
-        Control::Capture(capture) => step_capture(s, w, capture),
+    /// A process for each command of a pipeline, all at once, each reading the pipe that the one before writes.
+    fn spawn_pipeline(
+        &mut self,
+        process: &Process<'t>,
+        before: &'t [Command],
+        last: &'t Command,
+    ) -> Result<Vec<Pid>, AllocError> {
+        let mut pids = Vec::new(self.system.heap);
+        let Streams { mut stdin, stdout } = process.streams;
+        for command in before {
+            let (reading, writing) = self.system.open_pipe()?;
+            let streams = Streams {
+                stdin,
+                stdout: writing,
+            };
+            pids.push(self.spawn(process, Control::Command(command), streams)?)?;
+            stdin = reading;
+        }
+        let streams = Streams { stdin, stdout };
+        pids.push(self.spawn(process, Control::Command(last), streams)?)?;
+        Ok(pids)
+    }
+
+    /// A command alone is done by this process, those between pipes by processes of their own that it waits for.
+    fn step_pipeline(
+        &mut self,
+        process: &mut Process<'t>,
+        pipeline: &'t Pipeline,
+    ) -> Result<Step<'t>, AllocError> {
+        if pipeline.negated {
+            process.frames.push(Frame::Not)?;
+        }
+        let control = match pipeline.commands.split_last() {
+            Some((command, [])) => Control::Command(command),
+            Some((last, before)) => Control::Wait(self.spawn_pipeline(process, before, last)?),
+            None => Control::Status(SUCCESS),
+        };
+        Ok(Step::GoesTo(control))
+    }
+
+    /// A command that is made of lists makes its redirections first; what was open before is open again after it.
+    fn step_command(
+        &mut self,
+        process: &mut Process<'t>,
+        command: &'t Command,
+    ) -> Result<Step<'t>, AllocError> {
+        let heap = self.system.heap;
+        match command {
+            Command::Simple {
+                assignments,
+                words,
+                redirects,
+            } => Ok(step_simple(
+                heap,
+                Simple {
+                    assignments,
+                    words,
+                    redirects,
+                },
+            )),
+            Command::Function { name, body } => process.define(heap, name, body),
+            Command::Compound {
+                compound,
+                redirects,
+            } if redirects.is_empty() => self.step_compound(process, compound),
+            Command::Compound {
+                compound,
+                redirects,
+            } => process.enters_redirects(redirects, AfterRedirects::Compound(compound)),
+        }
+    }
+
+    /// A command that is made of lists, whose redirections are made.
+    fn step_compound(
+        &mut self,
+        process: &mut Process<'t>,
+        compound: &'t Compound,
+    ) -> Result<Step<'t>, AllocError> {
+        let heap = self.system.heap;
+        match compound {
+            Compound::Group(list) => Ok(Step::GoesTo(Control::List(list))),
+            Compound::Subshell(list) => {
+                let pid = self.spawn(process, Control::List(list), process.streams)?;
+                Ok(Step::GoesTo(Control::Wait(vec![in heap; pid]?)))
+            }
+            Compound::If {
+                condition,
+                then,
+                otherwise,
+            } => {
+                let otherwise = otherwise.as_deref();
+                let branches = Branches { then, otherwise };
+                process.enters(Frame::If(branches), Control::List(condition))
+            }
+            Compound::While { condition, body } => process.enters_condition(While {
+                condition,
+                body,
+            }),
+            Compound::For { name, words, body } => Ok(Step::expands(
+                heap,
+                words,
+                Purpose::For(For { name, body }),
+            )),
+            Compound::Case { word, arms } => Ok(Step::expands_one(
+                heap,
+                word,
+                Purpose::Select { arms },
+            )),
+        }
+    }
+
+    /// Redirections from the left, then what they are for.
+    fn step_redirects(
+        &mut self,
+        process: &mut Process<'t>,
+        redirects: &'t [Redirect],
+        then: AfterRedirects<'t>,
+    ) -> Result<Step<'t>, AllocError> {
+        if let Some((redirect, rest)) = redirects.split_first() {
+            let kind = redirect.kind;
+            let purpose = Purpose::Redirect { kind, rest, then };
+            return Ok(Step::expands_one(self.system.heap, &redirect.word, purpose));
+        }
+        match then {
+            AfterRedirects::Invoke(words) => self.invoke(process, words),
+            AfterRedirects::Compound(compound) => Ok(Step::GoesTo(Control::Compound(compound))),
+        }
+    }
+
+    /// The first word names a function, or else a builtin; no words at all have status 0.
+    fn invoke(
+        &mut self,
+        process: &mut Process<'t>,
+        mut words: VecDeque<Vec<u8>>,
+    ) -> Result<Step<'t>, AllocError> {
+        let Some(name) = words.pop_front() else {
+            return Ok(Step::completes(SUCCESS));
+        };
+        let Some(body) = process.environment.function(&name) else {
+            return self.start_builtin(process, &name, &mut words);
+        };
+        let before = std::mem::replace(&mut process.environment.arguments, words);
+        process.enters(Frame::Arguments(before), Control::List(body))
+    }
+
+    /// Each word with * or ? outside quotes becomes the names of all files that match, the oldest first, if there are any.
+    fn all_pathnames(&self, words: &[Vec<QuotedByte>]) -> Result<VecDeque<Vec<u8>>, AllocError> {
+        let mut all = VecDeque::new(self.system.heap);
+        for word in words {
+            let before = all.len();
+            if has_pattern(word) {
+                self.push_matching(word, &mut all)?;
+            }
+            if all.len() == before {
+                all.push_back(bytes_of(self.system.heap, word)?)?;
+            }
+        }
+        Ok(all)
+    }
+
+    fn push_matching(
+        &self,
+        pattern: &[QuotedByte],
+        all: &mut VecDeque<Vec<u8>>,
+    ) -> Result<(), AllocError> {
+        for name in self.system.files.keys() {
+            if matches_name(self.system.heap, pattern, name)? {
+                all.push_back(name.clone()?)?;
+            }
+        }
+        Ok(())
+    }
+
+    /// All words are expanded: what they are for.
+    fn expanded(
+        &mut self,
+        process: &mut Process<'t>,
+        expansion: Expansion<'t>,
+    ) -> Result<Step<'t>, AllocError> {
+        let heap = self.system.heap;
+        let Expansion { built, purpose, .. } = expansion;
+        match purpose {
+            Purpose::Assign { name, rest } => process.assign(heap, name, &built, rest),
+            Purpose::Invoke { redirects } => self.start_invocation(process, &built, redirects),
+            Purpose::Redirect { kind, rest, then } => {
+                self.redirect(process, &built, kind, rest, then)
+            }
+            Purpose::For(of) => self.start_for(process, &built, of),
+            Purpose::Select { arms } => select(heap, &built, arms),
+            Purpose::Match {
+                subject,
+                list,
+                rest,
+            } => step_match(heap, &built, subject, list, rest),
+        }
+    }
+
+    /// The words of a simple command: its redirections are made, and then they are invoked.
+    fn start_invocation(
+        &self,
+        process: &mut Process<'t>,
+        built: &WordBuilder,
+        redirects: &'t [Redirect],
+    ) -> Result<Step<'t>, AllocError> {
+        let words = self.all_pathnames(built.complete())?;
+        process.enters_redirects(redirects, AfterRedirects::Invoke(words))
+    }
+
+    /// A redirection's word: its file or text is opened. If the file isn't there the command is not done, and has status 1.
+    fn redirect(
+        &mut self,
+        process: &mut Process<'t>,
+        built: &WordBuilder,
+        kind: RedirectKind,
+        redirects: &'t [Redirect],
+        then: AfterRedirects<'t>,
+    ) -> Result<Step<'t>, AllocError> {
+        let name = built.first_bytes()?;
+        let Some(streams) = self.system.redirected(process.streams, kind, name)? else {
+            return Ok(Step::completes(FAILURE));
+        };
+        process.streams = streams;
+        Ok(Step::GoesTo(Control::Redirects { redirects, then }))
+    }
+
+    fn start_for(
+        &self,
+        process: &mut Process<'t>,
+        built: &WordBuilder,
+        of: For<'t>,
+    ) -> Result<Step<'t>, AllocError> {
+        let words = self.all_pathnames(built.complete())?;
+        process.step_for(self.system.heap, of, words, SUCCESS)
+    }
+
+    /// One part of a word; behind the last part, the next word, if there is one.
+    fn step_expansion(
+        &mut self,
+        process: &mut Process<'t>,
+        mut expansion: Expansion<'t>,
+    ) -> Result<Step<'t>, AllocError> {
+        let Some((part, rest)) = expansion.to_come.split_first() else {
+            return self.next_word(process, expansion);
+        };
+        expansion.to_come = rest;
+        if let WordPart::Substitution { quoted, list } = part {
+            return self.start_capture(process, list, *quoted, expansion);
+        }
+        let heap = self.system.heap;
+        process
+            .environment
+            .insert_part(heap, &mut expansion.built, part)?;
+        Ok(Step::GoesTo(Control::Words(expansion)))
+    }
+
+    /// The word is complete: the next one, if there is one.
+    fn next_word(
+        &mut self,
+        process: &mut Process<'t>,
+        mut expansion: Expansion<'t>,
+    ) -> Result<Step<'t>, AllocError> {
+        expansion.built.close_word()?;
+        match expansion.to_come.next_word() {
+            Some(next) => {
+                expansion.to_come = next;
+                Ok(Step::GoesTo(Control::Words(expansion)))
+            }
+            None => self.expanded(process, expansion),
+        }
+    }
+
+    /// A $( ) is a process of its own that writes to a pipe.
+    fn start_capture(
+        &mut self,
+        process: &Process<'t>,
+        list: &'t [Item],
+        quoted: bool,
+        expansion: Expansion<'t>,
+    ) -> Result<Step<'t>, AllocError> {
+        let (handle, stdout) = self.system.open_pipe()?;
+        let stdin = process.streams.stdin;
+        let _ = self.spawn(process, Control::List(list), Streams { stdin, stdout })?;
+        Ok(Step::GoesTo(Control::Capture(Capture {
+            handle,
+            bytes: Vec::new(self.system.heap),
+            quoted,
+            expansion,
+        })))
+    }
+
+    /// $( ) is read until nobody can write to it any more. What was printed comes into the word, without the ends of
+    /// lines at its end.
+    fn step_capture(
+        &mut self,
+        process: &Process<'t>,
+        mut capture: Capture<'t>,
+    ) -> Result<Step<'t>, AllocError> {
+        match self.read_byte(process, capture.handle) {
+            ReadByte::Got(byte) => {
+                capture.bytes.push(byte)?;
+                Ok(Step::GoesTo(Control::Capture(capture)))
+            }
+            ReadByte::AtEnd => {
+                let Capture {
+                    bytes,
+                    quoted,
+                    mut expansion,
+                    ..
+                } = capture;
+                expansion.built.insert_value(quoted, &trim(bytes))?;
+                Ok(Step::GoesTo(Control::Words(expansion)))
+            }
+            ReadByte::MustWait => Ok(Step::Waits(Control::Capture(capture))),
+        }
+    }
+
+    /// Waiting for others: a step only if all have exited; then the last one's status, 0 if there is none.
+    fn step_wait(&self, pids: Vec<Pid>) -> Step<'t> {
+        let mut last = SUCCESS;
+        for pid in pids.iter() {
+            match self.exited.get(pid) {
+                Some(status) => last = *status,
+                None => return Step::Waits(Control::Wait(pids)),
+            }
+        }
+        Step::completes(last)
+    }
+
+    /// The step of a process, if it can take one now. Its control is taken apart: what a cat reads is its input or a
+    /// file, so that nobody's pipe seems closed by that.
+    pub fn step(
+        &mut self,
+        process: &mut Process<'t>,
+        control: Control<'t>,
+    ) -> Result<Step<'t>, AllocError> {
+        let heap = self.system.heap;
+        match control {
+            Control::List(list) => self.step_list(process, list),
+            Control::AndOr(joins) => process.step_and_or(joins),
+            Control::Pipeline(pipeline) => self.step_pipeline(process, pipeline),
+            Control::Command(command) => self.step_command(process, command),
+            Control::Compound(compound) => self.step_compound(process, compound),
+            Control::Words(expansion) => self.step_expansion(process, expansion),
+            Control::Redirects { redirects, then } => self.step_redirects(process, redirects, then),
+            Control::Builtin(builtin) => self.step_builtin(process, builtin),
+            Control::Print(printing) => self.print_byte(process, printing),
+            Control::Status(status) => process.step_status(heap, status),
+            Control::Unwind(unwind) => process.step_unwind(unwind),
+            Control::Wait(pids) => Ok(self.step_wait(pids)),
+            Control::Capture(capture) => self.step_capture(process, capture),
+        }
     }
 }

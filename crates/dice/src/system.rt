@@ -1,460 +1,76 @@
-//! A system: processes, what they have open, files, pipes, and reading and writing a byte.
+//! What processes share: files, what is open, pipes, and taking and putting a byte.
 
-use dice_tree::tree::{
-    AndOr, Arms, Assignments, Bytes, Command, CommandList, Pipeline, RedirectKind, Redirects, Word,
-    Words,
-};
+use dice_tree::tree::RedirectKind;
+use indexmap::IndexMap;
 use std::alloc::{AllocError, Global};
 use std::collections::VecDeque;
 
 /// A pipe holds up to so many bytes.
 const PIPE_SIZE: usize = 512;
 
-/// A byte of a word, and whether it comes from quotes.
+/// The number of what is open. Numbers are given out in order, and nothing is ever closed: so handles stand in a Vec.
 #[derive(Clone, Copy)]
-pub struct QuotedByte {
-    pub byte: u8,
-    pub quoted: bool,
-}
+pub struct HandleId(usize);
 
-/// What is open: a file by its name, read from a place; a file that is written behind what is there; the two ends of a
-/// pipe; the host's input; the paper; a text given by <<, read from a place.
-#[derive(Drop)]
-pub enum Handle {
-    FileRead { name: Vec<u8>, at: usize },
-    FileAppend { name: Vec<u8> },
-    PipeRead(usize),
-    PipeWrite(usize),
-    HostInput,
-    HostPaper,
-    HereText { bytes: Vec<u8>, at: usize },
-}
-
-#[derive(Drop)]
-pub struct File {
-    pub name: Vec<u8>,
-    pub bytes: Vec<u8>,
-}
-
-#[derive(Clone, Drop)]
-pub struct Variable {
-    pub name: Vec<u8>,
-    pub value: Vec<u8>,
-}
-
-#[derive(Clone, Drop)]
-pub struct Function {
-    pub name: Vec<u8>,
-    pub body: CommandList,
-}
-
-/// A builtin command at work, byte by byte.
-#[derive(Drop)]
-pub enum Builtin {
-    /// It is done, with this status.
-    Done(u32),
-    /// The names of files still to be copied; the handle that is read now.
-    Cat {
-        names: VecDeque<Vec<u8>>,
-        handle: Option<usize>,
-    },
-    /// So many lines still.
-    Head(u32),
-    /// Ends of lines and bytes so far.
-    Wc {
-        lines: u64,
-        bytes: u64,
-    },
-    /// What is looked for, the line so far, whether it was found before.
-    Grep {
-        pattern: Vec<u8>,
-        line: Vec<u8>,
-        found: bool,
-    },
-    Seq {
-        from: u32,
-        to: u32,
-    },
-    Yes(Vec<u8>),
-    /// Into this variable; the line so far.
-    Read {
-        name: Vec<u8>,
-        line: Vec<u8>,
-    },
-}
-
-/// Words being expanded: the words to come; the parts to come of this one; what there is of it so far, if anything is;
-/// the words that are complete; whether values are split at blanks; and what all this is for.
-#[derive(Drop)]
-pub struct Expansion {
-    pub words: Words,
-    pub parts: Word,
-    pub current: Option<Vec<QuotedByte>>,
-    pub complete: Vec<Vec<QuotedByte>>,
-    pub split: bool,
-    pub purpose: Purpose,
-}
-
-/// Bytes that are printed, from a place on, and the builtin that then goes on.
-#[derive(Drop)]
-pub struct Printing {
-    pub bytes: Vec<u8>,
-    pub at: usize,
-    pub then: Builtin,
-}
-
-/// What a process prints is read from a handle until it ends; whether that stands in quotes; the words that it is for.
-#[derive(Drop)]
-pub struct Capture {
-    pub handle: usize,
-    pub bytes: Vec<u8>,
-    pub quoted: bool,
-    pub expansion: Expansion,
-}
-
-/// What follows when all redirections are made: these words are invoked, or this command is done.
-#[derive(Drop)]
-pub enum AfterRedirects {
-    Invoke(VecDeque<Vec<u8>>),
-    Command(Command),
-}
-
-/// What words are expanded for.
-#[derive(Drop)]
-pub enum Purpose {
-    Assign {
-        name: Bytes,
-        rest: Assignments,
-        words: Words,
-        redirects: Redirects,
-    },
-    Invoke {
-        redirects: Redirects,
-    },
-    Redirect {
-        kind: RedirectKind,
-        rest: Redirects,
-        then: AfterRedirects,
-    },
-    Loop {
-        name: Bytes,
-        body: CommandList,
-    },
-    Select {
-        arms: Arms,
-    },
-    Match {
-        subject: Vec<u8>,
-        list: CommandList,
-        rest: Arms,
-    },
-}
-
-#[derive(Clone, Copy)]
-pub enum Unwind {
-    Break,
-    Continue,
-    Return,
-    Exit,
-}
-
-/// What a process does next.
-#[derive(Drop)]
-pub enum Control {
-    List(CommandList),
-    AndOr(AndOr),
-    Pipeline {
-        negated: bool,
-        pipeline: Pipeline,
-    },
-    Command(Command),
-    Words(Expansion),
-    Redirects {
-        redirects: Redirects,
-        then: AfterRedirects,
-    },
-    Builtin(Builtin),
-    Print(Printing),
-    /// A command is done, with this status.
-    Status(u32),
-    Unwind {
-        kind: Unwind,
-        status: u32,
-    },
-    /// It waits until these processes have exited, and has the last one's status.
-    Wait(Vec<usize>),
-    Capture(Capture),
-}
-
-/// What it does after that.
-#[derive(Drop)]
-pub enum Frame {
-    /// The rest of a list.
-    List(CommandList),
-    /// && (true) or ||, and the pipeline behind it, with its !.
-    AndOr {
-        and: bool,
-        negated: bool,
-        pipeline: Pipeline,
-    },
-    Not,
-    /// The lists of then and else.
-    If {
-        then: CommandList,
-        otherwise: Option<CommandList>,
-    },
-    /// A while whose condition is at work, and one whose body is.
-    Condition {
-        condition: CommandList,
-        body: CommandList,
-    },
-    Body {
-        condition: CommandList,
-        body: CommandList,
-    },
-    /// The words still to come of a for.
-    For {
-        name: Bytes,
-        words: VecDeque<Vec<u8>>,
-        body: CommandList,
-    },
-    /// The two handles that are open again after this.
-    Handles {
-        stdin: usize,
-        stdout: usize,
-    },
-    /// The arguments that hold again after a function.
-    Arguments(VecDeque<Vec<u8>>),
-}
-
-#[derive(Drop)]
-pub struct Process {
-    pub pid: usize,
-    pub control: Control,
-    /// The innermost last.
-    pub frames: Vec<Frame>,
-    /// The handles that it reads from and writes to, by number.
-    pub stdin: usize,
-    pub stdout: usize,
-    pub variables: Vec<Variable>,
-    /// The newest last.
-    pub functions: Vec<Function>,
-    pub arguments: VecDeque<Vec<u8>>,
-    /// The last status, $?.
-    pub status: u32,
-    /// The processes begun with & since the last wait.
-    pub jobs: Vec<usize>,
-}
-
-#[derive(Clone, Copy)]
-pub struct Exited {
-    pub pid: usize,
-    pub status: u32,
-}
-
-/// Handles and pipes are numbered in the order in which they were made, files stand oldest first, those who have exited
-/// newest last.
-#[derive(Drop)]
-pub struct System {
-    pub heap: Global,
-    pub processes: Vec<Process>,
-    pub next_pid: usize,
-    pub handles: Vec<Handle>,
-    pub pipes: Vec<VecDeque<u8>>,
-    pub files: Vec<File>,
-    pub input: VecDeque<u8>,
-    pub paper: Vec<u8>,
-    pub exited: Vec<Exited>,
-}
-
-pub fn find_file<'a>(files: &'a Vec<File>, name: &[u8]) -> Option<&'a [u8]> {
-    for file in files.iter() {
-        if file.name.as_slice() == name {
-            return Some(file.bytes.as_slice());
-        }
-    }
-    None
-}
-
-/// The place of a file among the files. One that is not there is made, as the newest.
-fn file_index(s: &mut System, name: &[u8]) -> Result<usize, AllocError> {
-    for (i, file) in s.files.iter().enumerate() {
-        if file.name.as_slice() == name {
-            return Ok(i);
-        }
-    }
-    let made = s.files.len();
-    s.files.push(File {
-        name: name.to_vec(s.heap)?,
-        bytes: Vec::new(s.heap),
-    })?;
-    Ok(made)
-}
-
-/// A file is there from now on, and is empty if it is to be written anew.
-pub fn make_file(s: &mut System, name: &[u8], anew: bool) -> Result<(), AllocError> {
-    let i = file_index(s, name)?;
-    if let Some(file) = s.files.get_mut(i) {
-        if anew {
-            file.bytes.clear();
-        }
-    }
-    Ok(())
-}
-
-fn append_byte(s: &mut System, name: &[u8], byte: u8) -> Result<(), AllocError> {
-    let i = file_index(s, name)?;
-    if let Some(file) = s.files.get_mut(i) {
-        file.bytes.push(byte)?;
-    }
-    Ok(())
-}
-
-pub fn remove_file(s: &mut System, name: &[u8]) {
-    for i in 0..s.files.len() {
-        let found = match s.files.get(i) {
-            Some(file) => file.name.as_slice() == name,
-            None => false,
-        };
-        if found && i < s.files.len() {
-            let _ = s.files.remove(i);
-            return;
-        }
-    }
-}
+/// The number of a pipe, in the order in which they were made.
+#[derive(Clone, Copy, PartialEq, Eq)]
+pub struct PipeId(usize);
 
 /// One end of a pipe.
+#[derive(Clone, Copy, PartialEq, Eq)]
+pub enum PipeEnd {
+    Reading(PipeId),
+    Writing(PipeId),
+}
+
+/// A file that is read, by its name, and the place of the next byte.
+#[derive(Drop)]
+pub struct FileReader {
+    name: Vec<u8>,
+    at: usize,
+}
+
+impl FileReader {
+    pub fn new(name: Vec<u8>) -> FileReader {
+        FileReader { name, at: 0 }
+    }
+
+    /// The next byte. Where there is no such file now, or nothing at that place, it ends.
+    fn next(&mut self, files: &Files) -> Option<u8> {
+        let byte = files.get(self.name.as_slice())?.get(self.at).copied()?;
+        self.at = self.at.saturating_add(1);
+        Some(byte)
+    }
+}
+
+/// What is open: a file that is read; a file that is written behind what is there; an end of a pipe; the host's input;
+/// the paper; what is left of a text given by <<.
+#[derive(Drop)]
+pub enum Handle {
+    FileRead(FileReader),
+    FileAppend { name: Vec<u8> },
+    Pipe(PipeEnd),
+    HostInput,
+    HostPaper,
+    HereText(VecDeque<u8>),
+}
+
+/// What a process reads from and writes to.
 #[derive(Clone, Copy)]
-enum PipeEnd {
-    Reading(usize),
-    Writing(usize),
+pub struct Streams {
+    pub stdin: HandleId,
+    pub stdout: HandleId,
 }
 
-fn handle_is(handles: &Vec<Handle>, end: PipeEnd, n: usize) -> bool {
-    match (handles.get(n), end) {
-        (Some(Handle::PipeRead(q)), PipeEnd::Reading(p)) => *q == p,
-        (Some(Handle::PipeWrite(q)), PipeEnd::Writing(p)) => *q == p,
-        _ => false,
+impl Streams {
+    pub fn have(self, system: &System, end: PipeEnd) -> bool {
+        system.is_end(self.stdin, end) || system.is_end(self.stdout, end)
     }
 }
 
-fn in_frames(handles: &Vec<Handle>, end: PipeEnd, frames: &Vec<Frame>) -> bool {
-    for frame in frames.iter() {
-        if let Frame::Handles { stdin, stdout } = frame {
-            if handle_is(handles, end, *stdin) || handle_is(handles, end, *stdout) {
-                return true;
-            }
-        }
-    }
-    false
-}
-
-fn in_builtin(handles: &Vec<Handle>, end: PipeEnd, builtin: &Builtin) -> bool {
-    match builtin {
-        Builtin::Cat {
-            handle: Some(d),
-            ..
-        } => handle_is(handles, end, *d),
-        _ => false,
-    }
-}
-
-fn in_control(handles: &Vec<Handle>, end: PipeEnd, control: &Control) -> bool {
-    match control {
-        Control::Builtin(builtin) => in_builtin(handles, end, builtin),
-        Control::Print(printing) => in_builtin(handles, end, &printing.then),
-        Control::Capture(capture) => handle_is(handles, end, capture.handle),
-        _ => false,
-    }
-}
-
-/// A process has such a handle open, or will have it open again: as its input or output, saved in a frame, in a cat or
-/// in a $( ).
-fn holds(handles: &Vec<Handle>, end: PipeEnd, w: &Process) -> bool {
-    handle_is(handles, end, w.stdin)
-        || handle_is(handles, end, w.stdout)
-        || in_frames(handles, end, &w.frames)
-        || in_control(handles, end, &w.control)
-}
-
-/// Somebody holds it: the process that moves, which stands beside the system, or another.
-fn held(s: &System, w: &Process, end: PipeEnd) -> bool {
-    if holds(&s.handles, end, w) {
-        return true;
-    }
-    for other in s.processes.iter() {
-        if holds(&s.handles, end, other) {
-            return true;
-        }
-    }
-    false
-}
-
-/// Reading a byte: a byte; there are no more; there may be more later.
+/// A pipe that is empty now.
 #[derive(Clone, Copy)]
-pub enum ReadByte {
-    Got(u8),
-    AtEnd,
-    MustWait,
-}
-
-fn got(byte: Option<u8>) -> ReadByte {
-    match byte {
-        Some(b) => ReadByte::Got(b),
-        None => ReadByte::AtEnd,
-    }
-}
-
-/// An empty pipe ends when nobody holds its other end any more.
-fn read_pipe(s: &mut System, w: &Process, p: usize) -> ReadByte {
-    let Some(pipe) = s.pipes.get_mut(p) else {
-        return ReadByte::AtEnd;
-    };
-    if let Some(byte) = pipe.pop_front() {
-        return ReadByte::Got(byte);
-    }
-    if held(s, w, PipeEnd::Writing(p)) {
-        ReadByte::MustWait
-    } else {
-        ReadByte::AtEnd
-    }
-}
-
-/// The next byte of a file or a text that is open: a file is a name and a place, and where there is no such file now, or
-/// nothing at that place, it ends.
-fn byte_at(s: &System, d: usize) -> Option<u8> {
-    match s.handles.get(d)? {
-        Handle::FileRead { name, at } => find_file(&s.files, name.as_slice())?.get(*at).copied(),
-        Handle::HereText { bytes, at } => bytes.get(*at).copied(),
-        _ => None,
-    }
-}
-
-fn go_on(s: &mut System, d: usize) {
-    match s.handles.get_mut(d) {
-        Some(Handle::FileRead { at, .. }) => *at = at.saturating_add(1),
-        Some(Handle::HereText { at, .. }) => *at = at.saturating_add(1),
-        _ => {}
-    }
-}
-
-/// Reads a byte from a handle. From what is open for writing there is nothing to read.
-pub fn read_byte(s: &mut System, w: &Process, d: usize) -> ReadByte {
-    match s.handles.get(d) {
-        Some(Handle::PipeRead(p)) => {
-            let p = *p;
-            read_pipe(s, w, p)
-        }
-        Some(Handle::HostInput) => got(s.input.pop_front()),
-        _ => {
-            let byte = byte_at(s, d);
-            if byte.is_some() {
-                go_on(s, d);
-            }
-            got(byte)
-        }
-    }
-}
+pub struct EmptyPipe(pub PipeId);
 
 /// Writing a byte: it is written; the pipe is full; nobody can read the pipe any more.
 #[derive(Clone, Copy)]
@@ -464,113 +80,181 @@ pub enum WriteByte {
     NoReader,
 }
 
-fn write_pipe(s: &mut System, w: &Process, p: usize, byte: u8) -> Result<WriteByte, AllocError> {
-    if !held(s, w, PipeEnd::Reading(p)) {
-        return Ok(WriteByte::NoReader);
-    }
-    let Some(pipe) = s.pipes.get_mut(p) else {
-        return Ok(WriteByte::NoReader);
-    };
-    if pipe.len() >= PIPE_SIZE {
-        return Ok(WriteByte::PipeFull);
-    }
-    pipe.push_back(byte)?;
-    Ok(WriteByte::Wrote)
+/// The files by name, the oldest first, as * gives their names.
+pub type Files = IndexMap<Vec<u8>, Vec<u8>>;
+
+#[derive(Drop)]
+pub struct System {
+    pub heap: Global,
+    handles: Vec<Handle>,
+    pipes: Vec<VecDeque<u8>>,
+    pub files: Files,
+    input: VecDeque<u8>,
+    pub paper: Vec<u8>,
 }
 
-/// Writes a byte to a handle. Who writes to a file writes behind what is there, and makes it again if it was removed.
-/// What is written to something that is open for reading is lost.
-pub fn write_byte(
-    s: &mut System,
-    w: &Process,
-    d: usize,
-    byte: u8,
-) -> Result<WriteByte, AllocError> {
-    match s.handles.get(d) {
-        None => Ok(WriteByte::NoReader),
-        Some(Handle::PipeWrite(p)) => {
-            let p = *p;
-            write_pipe(s, w, p, byte)
-        }
-        Some(Handle::FileAppend { name }) => {
-            let name = name.clone()?;
-            append_byte(s, name.as_slice(), byte)?;
-            Ok(WriteByte::Wrote)
-        }
-        Some(Handle::HostPaper) => {
-            s.paper.push(byte)?;
-            Ok(WriteByte::Wrote)
-        }
-        Some(_) => Ok(WriteByte::Wrote),
-    }
-}
-
-pub fn exit_status(exited: &Vec<Exited>, pid: usize) -> Option<u32> {
-    for one in exited.iter().rev() {
-        if one.pid == pid {
-            return Some(one.status);
+impl System {
+    /// A system with nothing in it but the host's input.
+    pub fn new(heap: Global, input: Vec<u8>) -> System {
+        System {
+            heap,
+            handles: Vec::new(heap),
+            pipes: Vec::new(heap),
+            files: IndexMap::new(heap),
+            input: VecDeque::from_vec(input),
+            paper: Vec::new(heap),
         }
     }
-    None
-}
 
-/// What a variable stands for: nothing if it was never set.
-pub fn variable_value<'a>(variables: &'a Vec<Variable>, name: &[u8]) -> &'a [u8] {
-    for v in variables.iter() {
-        if v.name.as_slice() == name {
-            return v.value.as_slice();
+    /// Opens something, and answers its handle.
+    pub fn open(&mut self, handle: Handle) -> Result<HandleId, AllocError> {
+        let number = HandleId(self.handles.len());
+        self.handles.push(handle)?;
+        Ok(number)
+    }
+
+    /// Opens the host's input and the paper.
+    pub fn open_host(&mut self) -> Result<Streams, AllocError> {
+        let stdin = self.open(Handle::HostInput)?;
+        let stdout = self.open(Handle::HostPaper)?;
+        Ok(Streams { stdin, stdout })
+    }
+
+    /// A pipe and its two ends: the one that is read, and the one that is written.
+    pub fn open_pipe(&mut self) -> Result<(HandleId, HandleId), AllocError> {
+        let pipe = PipeId(self.pipes.len());
+        self.pipes.push(VecDeque::new(self.heap))?;
+        let reading = self.open(Handle::Pipe(PipeEnd::Reading(pipe)))?;
+        let writing = self.open(Handle::Pipe(PipeEnd::Writing(pipe)))?;
+        Ok((reading, writing))
+    }
+
+    /// What is open after a redirection to a file or a text; nothing if the file to be read isn't there. A file that is
+    /// written is made if need be.
+    pub fn redirected(
+        &mut self,
+        streams: Streams,
+        kind: RedirectKind,
+        name: Vec<u8>,
+    ) -> Result<Option<Streams>, AllocError> {
+        if kind == RedirectKind::Input && !self.has_file(name.as_slice()) {
+            return Ok(None);
+        }
+        let Streams { stdin, stdout } = streams;
+        let streams = match kind {
+            RedirectKind::Input => Streams {
+                stdin: self.open(Handle::FileRead(FileReader::new(name)))?,
+                stdout,
+            },
+            RedirectKind::Here => Streams {
+                stdin: self.open(Handle::HereText(VecDeque::from_vec(name)))?,
+                stdout,
+            },
+            RedirectKind::Output => Streams {
+                stdin,
+                stdout: self.create(name)?,
+            },
+            RedirectKind::Append => Streams {
+                stdin,
+                stdout: self.append(name)?,
+            },
+        };
+        Ok(Some(streams))
+    }
+
+    /// Opens a file that is empty first.
+    fn create(&mut self, name: Vec<u8>) -> Result<HandleId, AllocError> {
+        self.files.insert(name.clone()?, Vec::new(self.heap))?;
+        self.open(Handle::FileAppend { name })
+    }
+
+    /// Opens a file that is written behind what is there.
+    fn append(&mut self, name: Vec<u8>) -> Result<HandleId, AllocError> {
+        if !self.has_file(name.as_slice()) {
+            self.files.insert(name.clone()?, Vec::new(self.heap))?;
+        }
+        self.open(Handle::FileAppend { name })
+    }
+
+    pub fn has_file(&self, name: &[u8]) -> bool {
+        self.files.contains_key(name)
+    }
+
+    /// A file that isn't there is no error.
+    pub fn remove_file(&mut self, name: &[u8]) {
+        let _ = self.files.shift_remove(name);
+    }
+
+    /// Whether a handle is this end of a pipe.
+    pub fn is_end(&self, handle: HandleId, end: PipeEnd) -> bool {
+        matches!(self.handles.get(handle.0), Some(Handle::Pipe(open)) if *open == end)
+    }
+
+    /// The pipe that is written by a handle, if it is one.
+    pub fn written_pipe(&self, handle: HandleId) -> Option<PipeId> {
+        match self.handles.get(handle.0) {
+            Some(Handle::Pipe(PipeEnd::Writing(pipe))) => Some(*pipe),
+            _ => None,
         }
     }
-    &[]
-}
 
-/// The place of a variable among the variables. One that is not there is made.
-fn variable_index(w: &mut Process, heap: Global, name: &[u8]) -> Result<usize, AllocError> {
-    for (i, v) in w.variables.iter().enumerate() {
-        if v.name.as_slice() == name {
-            return Ok(i);
+    /// Takes a byte from a handle; nothing at its end. From what is open for writing there is nothing to read.
+    pub fn take_byte(&mut self, handle: HandleId) -> Result<Option<u8>, EmptyPipe> {
+        match self.handles.get_mut(handle.0) {
+            Some(Handle::Pipe(PipeEnd::Reading(pipe))) => {
+                let pipe = *pipe;
+                self.take_from_pipe(pipe)
+            }
+            Some(Handle::HostInput) => Ok(self.input.pop_front()),
+            Some(Handle::HereText(bytes)) => Ok(bytes.pop_front()),
+            Some(Handle::FileRead(file)) => Ok(file.next(&self.files)),
+            _ => Ok(None),
         }
     }
-    let made = w.variables.len();
-    w.variables.push(Variable {
-        name: name.to_vec(heap)?,
-        value: Vec::new(heap),
-    })?;
-    Ok(made)
-}
 
-pub fn set_variable(
-    w: &mut Process,
-    heap: Global,
-    name: &[u8],
-    mut value: Vec<u8>,
-) -> Result<(), AllocError> {
-    let i = variable_index(w, heap, name)?;
-    if let Some(v) = w.variables.get_mut(i) {
-        std::mem::swap(&mut v.value, &mut value);
-    }
-    Ok(())
-}
-
-/// Opens something, and answers its handle.
-pub fn open_handle(s: &mut System, handle: Handle) -> Result<usize, AllocError> {
-    let number = s.handles.len();
-    s.handles.push(handle)?;
-    Ok(number)
-}
-
-/// What the process does after what it begins now.
-pub fn push_frame(w: &mut Process, frame: Frame) -> Result<(), AllocError> {
-    w.frames.push(frame)?;
-    Ok(())
-}
-
-/// The body of a function, the newest of its name.
-pub fn function_body(functions: &Vec<Function>, name: &[u8]) -> Option<CommandList> {
-    for f in functions.iter().rev() {
-        if f.name.as_slice() == name {
-            return Some(f.body);
+    fn take_from_pipe(&mut self, pipe: PipeId) -> Result<Option<u8>, EmptyPipe> {
+        match self.pipes.get_mut(pipe.0) {
+            Some(bytes) => match bytes.pop_front() {
+                Some(byte) => Ok(Some(byte)),
+                None => Err(EmptyPipe(pipe)),
+            },
+            None => Ok(None),
         }
     }
-    None
+
+    /// Puts a byte into what a handle stands for. Who writes to a file writes behind what is there, and makes it again if
+    /// it was removed. What is written to something that is open for reading is lost.
+    pub fn put_byte(&mut self, handle: HandleId, byte: u8) -> Result<WriteByte, AllocError> {
+        match self.handles.get(handle.0) {
+            None => return Ok(WriteByte::NoReader),
+            Some(Handle::Pipe(PipeEnd::Writing(pipe))) => {
+                let pipe = *pipe;
+                return self.put_into_pipe(pipe, byte);
+            }
+            Some(Handle::FileAppend { name }) => {
+                let name = name.clone()?;
+                self.put_into_file(name, byte)?;
+            }
+            Some(Handle::HostPaper) => self.paper.push(byte)?,
+            Some(_) => {}
+        }
+        Ok(WriteByte::Wrote)
+    }
+
+    fn put_into_pipe(&mut self, pipe: PipeId, byte: u8) -> Result<WriteByte, AllocError> {
+        let Some(bytes) = self.pipes.get_mut(pipe.0) else {
+            return Ok(WriteByte::NoReader);
+        };
+        if bytes.len() >= PIPE_SIZE {
+            return Ok(WriteByte::PipeFull);
+        }
+        bytes.push_back(byte)?;
+        Ok(WriteByte::Wrote)
+    }
+
+    fn put_into_file(&mut self, name: Vec<u8>, byte: u8) -> Result<(), AllocError> {
+        let bytes = self.files.entry(name)?.or_insert(Vec::new(self.heap));
+        bytes.push(byte)?;
+        Ok(())
+    }
 }
