@@ -23,6 +23,8 @@ use segments::{
     MARK, ROOM, SIZE, USED, append_segment, append_word, append_words, cut, engage, evacuate,
     exchange, first_unused, open, put, read, relocate, retire, segment, word,
 };
+use std::error::Error;
+use std::fmt;
 use std::marker::Model;
 
 mod dense;
@@ -30,12 +32,23 @@ mod dense;
 // The fewest words that a store is made in.
 const LEAST: usize = 64;
 
-// Why a list gets no more words.
+/// Why a list gets no more words.
 #[derive(Clone, Copy, PartialEq, Eq, Debug)]
 pub enum Refusal {
     NotInUse,
     NoRoom,
 }
+
+impl fmt::Display for Refusal {
+    fn fmt<W: fmt::Write>(&self, f: &mut fmt::Formatter<W>) -> fmt::Result {
+        f.write_str(match self {
+            Refusal::NotInUse => "the list is not in use",
+            Refusal::NoRoom => "no room",
+        })
+    }
+}
+
+impl Error for Refusal {}
 
 // Lists of words, in words that are lent: a table of `count` entries in front, and two halves, of which one holds the lists,
 // from `low` up to its end `hi`; the other is free.
