@@ -9,27 +9,23 @@ pub fn dense_stands()
     ensures remove { DenseRemove }
     ensures taken { DenseFreshBlock }
     ensures given { DenseRemoveBlock }
-{
-}
+{}
 
 /// The sum that refuses has a constant for each list in use.
 pub fn dense_count_stands()
     ensures counts { DenseCount }
     ensures shape { DenseShape }
     ensures back { ShapeDense }
-{
-}
+{}
 
 /// What `remove_block` does to each list, where the two blocks have no list in common.
 pub fn block_moves_stands()
     ensures { BlockMoves }
-{
-}
+{}
 
 /// How few words are lent where room is refused.
 pub fn few_lent_stands()
     ensures words { FewForWords }
     ensures fresh { FewForFresh }
     ensures block { FewForBlock }
-{
-}
+{}

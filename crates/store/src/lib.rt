@@ -12,17 +12,15 @@
 
 ghost use Rattle.std.specs.Prelude.{◌≡◌, ℕ, ◌+◌, ◌-◌, ◌*◌, ◌/◌, ◌^◌, ◌<◌, ◌≤◌, min, Bool, true, false, ◌&&◌, ◌||◌, nat_lt, ◌≢◌, ◌⊎◌, List, [], ◌∷◌, ◌++◌, length, get_or, take, drop, is_some, is_ok, if◌then◌else◌, Some, None, MatchOption, MatchResult, nat_le, nat_lt, slice_index, slice_index_or, slice_set};
 ghost use Rattle.std.specs.List.{prefix_len};
-ghost use Rattle.segments.specs.Layout.{field, start, size, room, mark, segs, need, tense, strain, spread};
+ghost use Rattle.segments.specs.Layout.{need, spread};
+ghost use Rattle.segments.specs.Table.{nth, segs, marks, tense, strain};
 ghost use Rattle.store.specs.Sums.{extent, asked, enough, told, final};
 ghost use Rattle.store.specs.Dense.{Dense, marked, replaced, replaced_block, offered_block};
 ghost use Rattle.store.specs.Layout.{lists, lives};
 ghost use Rattle.store.specs.Held.{Shifted, Reserved, Paid, Seldom, free, pressed, Held, model, bounds, shifts, spent, Empty};
 
 pub use dense::{block_moves_stands, dense_count_stands, dense_stands, few_lent_stands};
-use segments::{
-    MARK, ROOM, SIZE, USED, append_segment, append_word, append_words, cut, engage, evacuate,
-    exchange, first_unused, open, put, read, relocate, retire, segment, word,
-};
+use segments::Segments;
 use std::error::Error;
 use std::fmt;
 use std::marker::Model;
@@ -50,13 +48,12 @@ impl fmt::Display for Refusal {
 
 impl Error for Refusal {}
 
-// Lists of words, in words that are lent: a table of `count` entries in front, and two halves, of which one holds the lists,
+// Lists of words, in words that are lent: a table in front, and two halves, of which one holds the lists,
 // from `low` up to its end `hi`; the other is free.
 #[derive(Drop)]
 pub struct Store<'a> {
-    words: &'a mut [u32],
+    segments: Segments<'a>,
     half: usize,
-    count: usize,
     hi: usize,
     low: usize,
     total: usize,
@@ -82,34 +79,28 @@ impl Store<'_> {
         ensures held { Held self.now }
         ensures says { result ≡ slice_index_or (bounds self.now).1 i false }
     {
-        if i >= self.count {
-            return false;
-        }
-        read(self.words, i, MARK) == USED
+        self.segments.in_use(i)
     }
 
     // The word at j of list i, and 0 where there is none.
     pub fn get(&self, i: usize, j: usize) -> u32
         ensures { result ≡ slice_index (slice_index_or (model self.now) i []) j }
     {
-        word(self.words, self.count, i, j)
+        self.segments.word(i, j)
     }
 
     // How long list i is, and 0 where there is none.
     pub fn len(&self, i: usize) -> usize
         ensures { result ≡ length (slice_index_or (model self.now) i []) }
     {
-        if i >= self.count {
-            return 0;
-        }
-        read(self.words, i, SIZE)
+        self.segments.len(i)
     }
 
     // The words of list i.
     pub fn words(&self, i: usize) -> &[u32]
         ensures { result.now ≡ slice_index_or (model self.now) i [] }
     {
-        segment(self.words, self.count, i)
+        self.segments.segment(i)
     }
 
     // The words of list i from the place `from` on, and none where it has no such place.
@@ -129,55 +120,52 @@ impl Store<'_> {
         ensures after { model self.new ≡ slice_set (model self.old) i (slice_set (slice_index_or (model self.old) i []) j v) }
         ensures cost { spent self.new ≤ spent self.old }
     {
-        let n = self.count;
-        put(self.words, n, i, j, v);
+        self.segments.put(i, j, v);
     }
 
     // How many words the lists may still take: an eighth of the half is kept free.
     fn spare(&self) -> usize
-        ensures left { self.now.total + self.now.total / 4 + 8 * self.now.count + self.now.half / 8 + result ≡ self.now.half }
+        ensures left { self.now.total + self.now.total / 4 + 8 * length self.now.table.segments + self.now.half / 8 + result ≡ self.now.half }
         ensures small { self.now.half < 2 ^ 60 }
     {
-        self.half - (self.total + self.total / 4 + 8 * self.count + self.half / 8)
+        self.half - (self.total + self.total / 4 + 8 * self.segments.count() + self.half / 8)
     }
 
     // How many words list i has room for.
     fn room_of(&self, i: usize) -> usize
-        requires { i < self.now.count }
-        ensures is { result ≡ room self.now.words i }
-        ensures fits { size self.now.words i ≤ result }
+        requires { i < length self.now.table.segments }
+        ensures is { result ≡ (nth self.now.table i).room }
+        ensures fits { length (nth self.now.table i).words ≤ result }
     {
-        read(self.words, i, ROOM)
+        self.segments.room(i)
     }
 
     // Every list goes to the other half, each with a quarter more room.
     fn tidy(&mut self)
         ensures shifted { Shifted self.old self.new }
-        ensures space { self.new.low + spread (segs self.old.words self.old.count) ≡ self.new.hi }
-        ensures eased { strain self.new.words self.old.count ≡ 0 }
+        ensures space { self.new.low + spread (segs self.old.table) ≡ self.new.hi }
+        ensures eased { strain self.new.table ≡ 0 }
         ensures counts { self.new.moved ≡ min (self.old.moved + self.old.total) 18446744073709551615 }
     {
-        let n = self.count;
+        let other = 3 * self.half - self.hi;
         let low = self.low;
         let hi = self.hi;
-        let other = 3 * self.half - hi;
-        let end = evacuate(self.words, n, low, hi, other);
+        self.low = self.segments.evacuate(low, hi, other);
         self.hi = other;
-        self.low = end;
         self.moved = self.moved.saturating_add(self.total);
     }
 
     // Sees to it that as many words as are asked for are free in the half in use: where they are not, all lists go to the other half.
     fn make_space(&mut self, ask: usize)
-        requires ask_bound { self.old.total + self.old.total / 4 + 8 * self.old.count + self.old.half / 8 + ask ≤ self.old.half }
+        requires ask_bound { self.old.total + self.old.total / 4 + 8 * length self.old.table.segments + self.old.half / 8 + ask ≤ self.old.half }
         ensures shifted { Shifted self.old self.new }
-        ensures space { self.new.hi + 8 * self.new.count + ask ≤ self.new.low + self.new.half }
+        ensures space { self.new.hi + 8 * length self.new.table.segments + ask ≤ self.new.low + self.new.half }
         ensures seldom { Seldom self.old self.new ask }
         ensures cost { pressed self.new ask ≤ pressed self.old 0 + 8 * ask }
-        ensures rest { strain self.new.words self.old.count ≤ strain self.old.words self.old.count }
-        ensures eased { (i : ℕ) → i < self.old.count → strain self.new.words self.old.count + tense self.old.words i ≤ strain self.old.words self.old.count + tense self.new.words i }
+        ensures rest { strain self.new.table ≤ strain self.old.table }
+        ensures eased { (i : ℕ) → i < length self.old.table.segments → strain self.new.table + tense (nth self.old.table i) ≤ strain self.old.table + tense (nth self.new.table i) }
     {
-        if self.hi + 8 * self.count + ask <= self.low + self.half {
+        if self.hi + 8 * self.segments.count() + ask <= self.low + self.half {
             return;
         }
         self.tidy();
@@ -185,31 +173,30 @@ impl Store<'_> {
 
     // List i, of length len, goes before all others, with room r.
     fn widen(&mut self, i: usize, len: usize, r: usize)
-        requires i_lt_count { i < self.old.count }
-        requires len_value { len ≡ size self.old.words i }
+        requires there { i < length self.old.table.segments }
+        requires len_value { len ≡ length (nth self.old.table i).words }
         requires len_le_r { len ≤ r }
-        requires r_bound { self.old.hi + 8 * self.old.count + r ≤ self.old.low + self.old.half }
+        requires r_bound { self.old.hi + 8 * length self.old.table.segments + r ≤ self.old.low + self.old.half }
         ensures shifted { Shifted self.old self.new }
-        ensures wide { room self.new.words i ≡ r }
+        ensures wide { (nth self.new.table i).room ≡ r }
         ensures counts { self.new.moved ≡ min (self.old.moved + len) 18446744073709551615 }
         ensures cost { pressed self.new 0 ≤ pressed self.old r + len }
-        ensures eased { strain self.new.words self.old.count + tense self.old.words i ≡ strain self.old.words self.old.count + (5 * len - (4 * r + 3)) }
+        ensures eased { strain self.new.table + tense (nth self.old.table i) ≡ strain self.old.table + (5 * len - (4 * r + 3)) }
     {
-        let n = self.count;
         let at = self.low - r;
-        relocate(self.words, n, i, at, r);
+        self.segments.relocate(i, at, r);
         self.low = at;
         self.moved = self.moved.saturating_add(len);
     }
 
     // Sees to it that list i, of length len, has room for more words.
     fn make_room(&mut self, i: usize, len: usize, more: usize)
-        requires i_lt_count { i < self.old.count }
-        requires len_value { len ≡ size self.old.words i }
-        requires more_bound { self.old.total + self.old.total / 4 + 8 * self.old.count + self.old.half / 8 + asked (len + more) ≤ self.old.half }
+        requires there { i < length self.old.table.segments }
+        requires len_value { len ≡ length (nth self.old.table i).words }
+        requires more_bound { self.old.total + self.old.total / 4 + 8 * length self.old.table.segments + self.old.half / 8 + asked (len + more) ≤ self.old.half }
         requires small { self.old.half < 2 ^ 60 }
         ensures shifted { Shifted self.old self.new }
-        ensures wide { len + more ≤ room self.new.words i }
+        ensures wide { len + more ≤ (nth self.new.table i).room }
         ensures cost { Paid self.old self.new i len more }
     {
         let m = len + more;
@@ -250,8 +237,7 @@ impl Store<'_> {
         ensures cost { spent self.new ≤ spent self.old + 128 }
     {
         self.reserve(i, 1)?;
-        let n = self.count;
-        append_word(self.words, n, i, v);
+        self.segments.append_word(i, v);
         self.total += 1;
         Ok(())
     }
@@ -264,8 +250,7 @@ impl Store<'_> {
         ensures cost { spent self.new ≤ spent self.old + 128 * length xs.now }
     {
         self.reserve(i, xs.len())?;
-        let n = self.count;
-        append_words(self.words, n, i, xs);
+        self.segments.append_words(i, xs);
         self.total += xs.len();
         Ok(())
     }
@@ -279,8 +264,7 @@ impl Store<'_> {
     {
         let more = self.len(j);
         self.reserve(i, more)?;
-        let n = self.count;
-        append_segment(self.words, n, i, j);
+        self.segments.append_segment(i, j);
         self.total += more;
         Ok(())
     }
@@ -295,8 +279,7 @@ impl Store<'_> {
         if m >= len {
             return;
         }
-        let n = self.count;
-        cut(self.words, n, i, m);
+        self.segments.cut(i, m);
         self.total -= len - m;
     }
 
@@ -327,26 +310,24 @@ impl Store<'_> {
 
     // The smallest number that is not in use.
     fn unused(&self) -> usize
-        ensures within { result ≤ self.now.count }
-        ensures before { (k : ℕ) → k < result → mark self.now.words k ≡ 1 }
-        ensures here { result < self.now.count → mark self.now.words result ≢ 1 }
+        ensures within { result ≤ length self.now.table.segments }
+        ensures before { (k : ℕ) → k < result → (nth self.now.table k).used ≡ true }
+        ensures here { (nth self.now.table result).used ≡ false }
     {
-        first_unused(self.words, self.count, self.hint)
+        self.segments.first_unused(self.hint)
     }
 
     // One entry more in the table, for an empty list, where there is room.
     fn enlarge(&mut self)
-        requires half_bound { self.old.total + self.old.total / 4 + 8 * self.old.count + self.old.half / 8 + 8 ≤ self.old.half }
-        ensures counts { (self.new.count ≡ self.old.count + 1) × (self.new.total ≡ self.old.total) }
-        ensures bounds { (self.new.half ≡ self.old.half) × (lives self.new.words self.new.half self.new.count ≡ slice_set (lives self.old.words self.old.half self.old.count) self.old.count true) }
-        ensures same { lists self.new.words self.new.half self.new.count ≡ lists self.old.words self.old.half self.old.count }
+        requires half_bound { self.old.total + self.old.total / 4 + 8 * length self.old.table.segments + self.old.half / 8 + 8 ≤ self.old.half }
+        ensures counts { (length self.new.table.segments ≡ length self.old.table.segments + 1) × (self.new.total ≡ self.old.total) }
+        ensures bounds { (self.new.half ≡ self.old.half) × (lives self.new.table self.new.half ≡ slice_set (lives self.old.table self.old.half) (length self.old.table.segments) true) }
+        ensures same { lists self.new.table self.new.half ≡ lists self.old.table self.old.half }
         ensures cost { spent self.new ≤ spent self.old + 64 }
     {
         self.make_space(8);
-        let n = self.count;
         let low = self.low;
-        open(self.words, n, low);
-        self.count = n + 1;
+        self.segments.open(low);
     }
 
     // A list that was not in use, with the smallest such number; it is empty. None where the table would have to grow and there is no room.
@@ -357,10 +338,10 @@ impl Store<'_> {
         ensures dense { Dense (bounds self.old).1 → Dense (bounds self.new).1 }
         ensures cost { spent self.new ≤ spent self.old + 64 }
     {
-        let n = self.count;
+        let n = self.segments.count();
         let i = self.unused();
         if i < n {
-            engage(self.words, n, i);
+            self.segments.engage(i);
             self.hint = i + 1;
             return Some(i);
         }
@@ -380,7 +361,7 @@ impl Store<'_> {
         ensures dense { Dense (bounds self.old).1 → Dense (bounds self.new).1 }
         ensures cost { spent self.new ≤ spent self.old + 64 * k }
     {
-        let first = self.count;
+        let first = self.segments.count();
         if k > self.spare() / 8 {
             return None;
         }
@@ -392,15 +373,13 @@ impl Store<'_> {
 
     // List i, which is empty, goes out of use, and the table ends behind the last that is in use.
     fn release(&mut self, i: usize)
-        requires i_lt_count { i < self.old.count }
-        requires i_value { slice_index_or (segs self.old.words self.old.count) i [] ≡ [] }
-        ensures bounds { (self.new.half ≡ self.old.half) × (lives self.new.words self.new.half self.new.count ≡ slice_set (lives self.old.words self.old.half self.old.count) i false) }
-        ensures same { lists self.new.words self.new.half self.new.count ≡ lists self.old.words self.old.half self.old.count }
+        requires there { i < length self.old.table.segments }
+        requires i_value { (nth self.old.table i).words ≡ [] }
+        ensures bounds { (self.new.half ≡ self.old.half) × (lives self.new.table self.new.half ≡ slice_set (lives self.old.table self.old.half) i false) }
+        ensures same { lists self.new.table self.new.half ≡ lists self.old.table self.old.half }
         ensures cost { spent self.new ≤ spent self.old }
     {
-        let n = self.count;
-        let end = retire(self.words, n, i);
-        self.count = end;
+        self.segments.retire(i);
         self.hint = self.hint.min(i);
     }
 
@@ -433,8 +412,7 @@ impl Store<'_> {
         if i == j {
             return true;
         }
-        let n = self.count;
-        exchange(self.words, n, i, j);
+        self.segments.exchange(i, j);
         true
     }
 
@@ -450,7 +428,7 @@ impl Store<'_> {
         if !self.in_use(i) {
             return None;
         }
-        let last = self.count - 1;
+        let last = self.segments.count() - 1;
         let _ = self.swap(i, last);
         self.free(last);
         if i < last {
@@ -470,7 +448,7 @@ impl Store<'_> {
         ensures dense { Dense (bounds self.new).1 }
         ensures cost { spent self.new ≤ spent self.old }
     {
-        let n = self.count;
+        let n = self.segments.count();
         if k > n {
             return None;
         }
@@ -508,9 +486,8 @@ pub fn store_in(words: &mut [u32]) -> Option<Store<'_>>
     }
     let half = all / 2;
     Some(Store {
-        words,
+        segments: Segments::new(words),
         half,
-        count: 0,
         hi: half,
         low: half,
         total: 0,

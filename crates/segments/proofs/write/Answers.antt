@@ -1,6 +1,8 @@
+use Rattle.std.proofs.Common.{ℕ, ap, ◌+◌, ◌*◌}
+use Rattle.segments.specs.Words.{put64}
 use Rattle.segments.specs.Layout.{filed}
 use Rattle.segments.proofs.write.Goals as goal
 
 pub returns : goal.returns
 unfolding filed
-returns c = c.put_wide.ensures
+returns c = rw (← c.place.ensures.is) c.put_wide.ensures
