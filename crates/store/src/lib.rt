@@ -1,13 +1,13 @@
-// Growable lists of words, all in one lent slice.
-//
-// In front lies a table with an entry of eight words for each number up to the last in use; behind it the words are two halves, and the lists lie
-// in one of them, placed from its end towards its beginning. A list that outgrows its room goes before all others, with half of its length and
-// eight words more; when the half is used up, every list goes to the other half, with a quarter of its length more. Both halves lose as much
-// as the table takes, so that the table may grow.
-//
-// A call that asks for words is refused exactly if the sum `enough` (specs/Sums.antt) passes half of the words lent: what all lists hold, and a
-// quarter more, eight for each number up to the last in use, what is asked for, and an eighth of the half. So after a move at least an eighth is
-// free, and moves are paid for by pushes: `spent` rises by at most 128 for each word that comes and 64 for each fresh list.
+//! Growable lists of words, all in one lent slice.
+//!
+//! In front lies a table with an entry of eight words for each number up to the last in use; behind it the words are two halves, and the lists lie
+//! in one of them, placed from its end towards its beginning. A list that outgrows its room goes before all others, with half of its length and
+//! eight words more; when the half is used up, every list goes to the other half, with a quarter of its length more. Both halves lose as much
+//! as the table takes, so that the table may grow.
+//!
+//! A call that asks for words is refused exactly if the sum `enough` (specs/Sums.antt) passes half of the words lent: what all lists hold, and a
+//! quarter more, eight for each number up to the last in use, what is asked for, and an eighth of the half. So after a move at least an eighth is
+//! free, and moves are paid for by pushes: `spent` rises by at most 128 for each word that comes and 64 for each fresh list.
 #![tactic(auto)]
 
 ghost use Rattle.std.specs.Prelude.{◌≡◌, ℕ, ◌+◌, ◌-◌, ◌*◌, ◌/◌, ◌^◌, ◌<◌, ◌≤◌, min, Bool, true, false, ◌&&◌, ◌||◌, nat_lt, ◌≢◌, ◌⊎◌, List, [], ◌∷◌, ◌++◌, length, get_or, take, drop, is_some, is_ok, if◌then◌else◌, Some, None, MatchOption, MatchResult, nat_le, nat_lt, slice_index, slice_index_or, slice_set};
@@ -27,7 +27,7 @@ use std::marker::Model;
 
 mod dense;
 
-// The fewest words that a store is made in.
+/// The fewest words that a store is made in.
 const LEAST: usize = 64;
 
 /// Why a list gets no more words.
@@ -48,8 +48,8 @@ impl fmt::Display for Refusal {
 
 impl Error for Refusal {}
 
-// Lists of words, in words that are lent: a table in front, and two halves, of which one holds the lists,
-// from `low` up to its end `hi`; the other is free.
+/// Lists of words, in words that are lent: a table in front, and two halves, of which one holds the lists,
+/// from `low` up to its end `hi`; the other is free.
 #[derive(Drop)]
 pub struct Store<'a> {
     segments: Segments<'a>,
@@ -74,7 +74,7 @@ impl<'a> Model for Store<'a> {
 }
 
 impl Store<'_> {
-    // Whether the number i is in use.
+    /// Whether the number i is in use.
     pub fn in_use(&self, i: usize) -> bool
         ensures held { Held self.now }
         ensures says { result ≡ slice_index_or (bounds self.now).1 i false }
@@ -82,28 +82,28 @@ impl Store<'_> {
         self.segments.in_use(i)
     }
 
-    // The word at j of list i, and 0 where there is none.
+    /// The word at j of list i, and 0 where there is none.
     pub fn get(&self, i: usize, j: usize) -> u32
         ensures { result ≡ slice_index (slice_index_or (model self.now) i []) j }
     {
         self.segments.word(i, j)
     }
 
-    // How long list i is, and 0 where there is none.
+    /// How long list i is, and 0 where there is none.
     pub fn len(&self, i: usize) -> usize
         ensures { result ≡ length (slice_index_or (model self.now) i []) }
     {
         self.segments.len(i)
     }
 
-    // The words of list i.
+    /// The words of list i.
     pub fn words(&self, i: usize) -> &[u32]
         ensures { result.now ≡ slice_index_or (model self.now) i [] }
     {
         self.segments.segment(i)
     }
 
-    // The words of list i from the place `from` on, and none where it has no such place.
+    /// The words of list i from the place `from` on, and none where it has no such place.
     pub fn words_from(&self, i: usize, from: usize) -> &[u32]
         ensures { result.now ≡ drop from (slice_index_or (model self.now) i []) }
     {
@@ -114,7 +114,7 @@ impl Store<'_> {
         &words[from..]
     }
 
-    // Puts v at j of list i, if there is such a place.
+    /// Puts v at j of list i, if there is such a place.
     pub fn set(&mut self, i: usize, j: usize, v: u32)
         ensures same { bounds self.new ≡ bounds self.old }
         ensures after { model self.new ≡ slice_set (model self.old) i (slice_set (slice_index_or (model self.old) i []) j v) }
@@ -123,7 +123,7 @@ impl Store<'_> {
         self.segments.put(i, j, v);
     }
 
-    // How many words the lists may still take: an eighth of the half is kept free.
+    /// How many words the lists may still take: an eighth of the half is kept free.
     fn spare(&self) -> usize
         ensures left { self.now.total + self.now.total / 4 + 8 * length self.now.table.segments + self.now.half / 8 + result ≡ self.now.half }
         ensures small { self.now.half < 2 ^ 60 }
@@ -131,7 +131,7 @@ impl Store<'_> {
         self.half - (self.total + self.total / 4 + 8 * self.segments.count() + self.half / 8)
     }
 
-    // How many words list i has room for.
+    /// How many words list i has room for.
     fn room_of(&self, i: usize) -> usize
         requires { i < length self.now.table.segments }
         ensures is { result ≡ (nth self.now.table i).room }
@@ -140,7 +140,7 @@ impl Store<'_> {
         self.segments.room(i)
     }
 
-    // Every list goes to the other half, each with a quarter more room.
+    /// Every list goes to the other half, each with a quarter more room.
     fn tidy(&mut self)
         ensures shifted { Shifted self.old self.new }
         ensures space { self.new.low + spread (segs self.old.table) ≡ self.new.hi }
@@ -155,9 +155,9 @@ impl Store<'_> {
         self.moved = self.moved.saturating_add(self.total);
     }
 
-    // Sees to it that as many words as are asked for are free in the half in use: where they are not, all lists go to the other half.
+    /// Sees to it that as many words as are asked for are free in the half in use: where they are not, all lists go to the other half.
     fn make_space(&mut self, ask: usize)
-        requires ask_bound { self.old.total + self.old.total / 4 + 8 * length self.old.table.segments + self.old.half / 8 + ask ≤ self.old.half }
+        requires fits { self.old.total + self.old.total / 4 + 8 * length self.old.table.segments + self.old.half / 8 + ask ≤ self.old.half }
         ensures shifted { Shifted self.old self.new }
         ensures space { self.new.hi + 8 * length self.new.table.segments + ask ≤ self.new.low + self.new.half }
         ensures seldom { Seldom self.old self.new ask }
@@ -171,12 +171,12 @@ impl Store<'_> {
         self.tidy();
     }
 
-    // List i, of length len, goes before all others, with room r.
+    /// List i, of length len, goes before all others, with room r.
     fn widen(&mut self, i: usize, len: usize, r: usize)
         requires there { i < length self.old.table.segments }
-        requires len_value { len ≡ length (nth self.old.table i).words }
-        requires len_le_r { len ≤ r }
-        requires r_bound { self.old.hi + 8 * length self.old.table.segments + r ≤ self.old.low + self.old.half }
+        requires length_is { len ≡ length (nth self.old.table i).words }
+        requires holds { len ≤ r }
+        requires free { self.old.hi + 8 * length self.old.table.segments + r ≤ self.old.low + self.old.half }
         ensures shifted { Shifted self.old self.new }
         ensures wide { (nth self.new.table i).room ≡ r }
         ensures counts { self.new.moved ≡ min (self.old.moved + len) 18446744073709551615 }
@@ -189,11 +189,11 @@ impl Store<'_> {
         self.moved = self.moved.saturating_add(len);
     }
 
-    // Sees to it that list i, of length len, has room for more words.
+    /// Sees to it that list i, of length len, has room for more words.
     fn make_room(&mut self, i: usize, len: usize, more: usize)
         requires there { i < length self.old.table.segments }
-        requires len_value { len ≡ length (nth self.old.table i).words }
-        requires more_bound { self.old.total + self.old.total / 4 + 8 * length self.old.table.segments + self.old.half / 8 + asked (len + more) ≤ self.old.half }
+        requires length_is { len ≡ length (nth self.old.table i).words }
+        requires fits { self.old.total + self.old.total / 4 + 8 * length self.old.table.segments + self.old.half / 8 + asked (len + more) ≤ self.old.half }
         requires small { self.old.half < 2 ^ 60 }
         ensures shifted { Shifted self.old self.new }
         ensures wide { len + more ≤ (nth self.new.table i).room }
@@ -208,7 +208,7 @@ impl Store<'_> {
         self.widen(i, len, room);
     }
 
-    // Room for more words in list i, or a refusal.
+    /// Room for more words in list i, or a refusal.
     fn reserve(&mut self, i: usize, more: usize) -> Result<(), Refusal>
         ensures says { result ≡ told (slice_index_or (bounds self.old).1 i false) (enough (bounds self.old) (model self.old) (asked (length (slice_index_or (model self.old) i []) + more))) }
         ensures after { MatchResult result (λ _. Reserved self.old self.new i more) (λ _. self.new ≡ self.old) }
@@ -229,7 +229,7 @@ impl Store<'_> {
         Ok(())
     }
 
-    // One word more at the end of list i, or a refusal.
+    /// One word more at the end of list i, or a refusal.
     pub fn push(&mut self, i: usize, v: u32) -> Result<(), Refusal>
         ensures same { bounds self.new ≡ bounds self.old }
         ensures after { MatchResult result (λ _. model self.new ≡ slice_set (model self.old) i (slice_index_or (model self.old) i [] ++ (v ∷ []))) (λ _. model self.new ≡ model self.old) }
@@ -242,7 +242,7 @@ impl Store<'_> {
         Ok(())
     }
 
-    // The words of a slice more at the end of list i, or a refusal.
+    /// The words of a slice more at the end of list i, or a refusal.
     pub fn extend(&mut self, i: usize, xs: &[u32]) -> Result<(), Refusal>
         ensures same { bounds self.new ≡ bounds self.old }
         ensures after { MatchResult result (λ _. model self.new ≡ slice_set (model self.old) i (slice_index_or (model self.old) i [] ++ xs.now)) (λ _. model self.new ≡ model self.old) }
@@ -255,7 +255,7 @@ impl Store<'_> {
         Ok(())
     }
 
-    // The words of list j more at the end of list i, or a refusal; list j stays, and may be list i.
+    /// The words of list j more at the end of list i, or a refusal; list j stays, and may be list i.
     pub fn append(&mut self, i: usize, j: usize) -> Result<(), Refusal>
         ensures same { bounds self.new ≡ bounds self.old }
         ensures after { MatchResult result (λ _. model self.new ≡ slice_set (model self.old) i (slice_index_or (model self.old) i [] ++ slice_index_or (model self.old) j [])) (λ _. model self.new ≡ model self.old) }
@@ -269,7 +269,7 @@ impl Store<'_> {
         Ok(())
     }
 
-    // Keeps the first m words of list i, or all where it has fewer.
+    /// Keeps the first m words of list i, or all where it has fewer.
     pub fn truncate(&mut self, i: usize, m: usize)
         ensures same { bounds self.new ≡ bounds self.old }
         ensures after { model self.new ≡ slice_set (model self.old) i (take m (slice_index_or (model self.old) i [])) }
@@ -283,7 +283,7 @@ impl Store<'_> {
         self.total -= len - m;
     }
 
-    // Nothing is left in list i.
+    /// Nothing is left in list i.
     pub fn clear(&mut self, i: usize)
         ensures same { bounds self.new ≡ bounds self.old }
         ensures after { model self.new ≡ slice_set (model self.old) i [] }
@@ -292,7 +292,7 @@ impl Store<'_> {
         self.truncate(i, 0);
     }
 
-    // The last word of list i, which is taken off, if there is one.
+    /// The last word of list i, which is taken off, if there is one.
     pub fn pop(&mut self, i: usize) -> Option<u32>
         ensures same { bounds self.new ≡ bounds self.old }
         ensures after { model self.new ≡ slice_set (model self.old) i (take (length (slice_index_or (model self.old) i []) - 1) (slice_index_or (model self.old) i [])) }
@@ -308,7 +308,7 @@ impl Store<'_> {
         Some(v)
     }
 
-    // The smallest number that is not in use.
+    /// The smallest number that is not in use.
     fn unused(&self) -> usize
         ensures within { result ≤ length self.now.table.segments }
         ensures before { (k : ℕ) → k < result → (nth self.now.table k).used ≡ true }
@@ -317,9 +317,9 @@ impl Store<'_> {
         self.segments.first_unused(self.hint)
     }
 
-    // One entry more in the table, for an empty list, where there is room.
+    /// One entry more in the table, for an empty list, where there is room.
     fn enlarge(&mut self)
-        requires half_bound { self.old.total + self.old.total / 4 + 8 * length self.old.table.segments + self.old.half / 8 + 8 ≤ self.old.half }
+        requires fits { self.old.total + self.old.total / 4 + 8 * length self.old.table.segments + self.old.half / 8 + 8 ≤ self.old.half }
         ensures counts { (length self.new.table.segments ≡ length self.old.table.segments + 1) × (self.new.total ≡ self.old.total) }
         ensures bounds { (self.new.half ≡ self.old.half) × (lives self.new.table self.new.half ≡ slice_set (lives self.old.table self.old.half) (length self.old.table.segments) true) }
         ensures same { lists self.new.table self.new.half ≡ lists self.old.table self.old.half }
@@ -330,7 +330,7 @@ impl Store<'_> {
         self.segments.open(low);
     }
 
-    // A list that was not in use, with the smallest such number; it is empty. None where the table would have to grow and there is no room.
+    /// A list that was not in use, with the smallest such number; it is empty. None where the table would have to grow and there is no room.
     pub fn fresh(&mut self) -> Option<usize>
         ensures same { bounds self.new ≡ (if is_some result then ((bounds self.old).0, slice_set (bounds self.old).1 (prefix_len (λ b. b) (bounds self.old).1) true) else bounds self.old) }
         ensures after { model self.new ≡ model self.old }
@@ -353,7 +353,7 @@ impl Store<'_> {
         Some(n)
     }
 
-    // k empty lists with numbers in a row, behind all that are in use; the answer is the first of them. None where there is no room for all of them.
+    /// k empty lists with numbers in a row, behind all that are in use; the answer is the first of them. None where there is no room for all of them.
     pub fn fresh_block(&mut self, k: usize) -> Option<usize>
         ensures same { bounds self.new ≡ (if is_some result then ((bounds self.old).0, marked (bounds self.old).1 (extent (bounds self.old).1) k true) else bounds self.old) }
         ensures after { model self.new ≡ model self.old }
@@ -371,10 +371,10 @@ impl Store<'_> {
         Some(first)
     }
 
-    // List i, which is empty, goes out of use, and the table ends behind the last that is in use.
+    /// List i, which is empty, goes out of use, and the table ends behind the last that is in use.
     fn release(&mut self, i: usize)
         requires there { i < length self.old.table.segments }
-        requires i_value { (nth self.old.table i).words ≡ [] }
+        requires bare { (nth self.old.table i).words ≡ [] }
         ensures bounds { (self.new.half ≡ self.old.half) × (lives self.new.table self.new.half ≡ slice_set (lives self.old.table self.old.half) i false) }
         ensures same { lists self.new.table self.new.half ≡ lists self.old.table self.old.half }
         ensures cost { spent self.new ≤ spent self.old }
@@ -383,7 +383,7 @@ impl Store<'_> {
         self.hint = self.hint.min(i);
     }
 
-    // List i goes out of use, and is empty.
+    /// List i goes out of use, and is empty.
     pub fn free(&mut self, i: usize)
         ensures same { bounds self.new ≡ ((bounds self.old).0, slice_set (bounds self.old).1 i false) }
         ensures after { model self.new ≡ slice_set (model self.old) i [] }
@@ -396,7 +396,7 @@ impl Store<'_> {
         self.release(i);
     }
 
-    // Lists i and j, if both are in use, change places; no word of theirs is moved.
+    /// Lists i and j, if both are in use, change places; no word of theirs is moved.
     pub fn swap(&mut self, i: usize, j: usize) -> bool
         ensures same { bounds self.new ≡ bounds self.old }
         ensures after { model self.new ≡ (if result then slice_set (slice_set (model self.old) i (slice_index_or (model self.old) j [])) j (slice_index_or (model self.old) i []) else model self.old) }
@@ -416,8 +416,8 @@ impl Store<'_> {
         true
     }
 
-    // List i goes out of use, and the list with the greatest number takes its place; no word is moved. The answer is the number
-    // that list had, and None where i had the greatest, or is not in use.
+    /// List i goes out of use, and the list with the greatest number takes its place; no word is moved. The answer is the number
+    /// that list had, and None where i had the greatest, or is not in use.
     pub fn remove(&mut self, i: usize) -> Option<usize>
         ensures same { bounds self.new ≡ (if slice_index_or (bounds self.old).1 i false then ((bounds self.old).0, slice_set (bounds self.old).1 (extent (bounds self.old).1 - 1) false) else bounds self.old) }
         ensures after { model self.new ≡ (if slice_index_or (bounds self.old).1 i false then replaced (model self.old) i (extent (bounds self.old).1 - 1) else model self.old) }
@@ -437,8 +437,8 @@ impl Store<'_> {
         None
     }
 
-    // The k lists from i on go out of use, and the last k take their places, in their order; no word is moved. The answer is the first number
-    // that those had, and None where they are the same, or where fewer than k lists are in use from i on.
+    /// The k lists from i on go out of use, and the last k take their places, in their order; no word is moved. The answer is the first number
+    /// that those had, and None where they are the same, or where fewer than k lists are in use from i on.
     pub fn remove_block(&mut self, i: usize, k: usize) -> Option<usize>
         requires dense { Dense (bounds self.old).1 }
         ensures there { extent (bounds self.old).1 ≤ length (model self.old) }
@@ -467,7 +467,7 @@ impl Store<'_> {
         None
     }
 
-    // How many words have been moved so far: never more than was paid in by the words that came.
+    /// How many words have been moved so far: never more than was paid in by the words that came.
     pub fn moved(&self) -> usize
         ensures is { result ≡ shifts self.now }
         ensures paid { result ≤ spent self.now }
@@ -476,7 +476,7 @@ impl Store<'_> {
     }
 }
 
-// A store with no lists in use, in all the words lent; None where these are fewer than 64.
+/// A store with no lists in use, in all the words lent; None where these are fewer than 64.
 pub fn store_in(words: &mut [u32]) -> Option<Store<'_>>
     ensures { MatchOption result (length words.old < 64) (λ s. Empty (length words.old) s) }
 {

@@ -20,7 +20,7 @@ invariant_of-self c =
     let v : Sound u = c.self.invariant in
     let e = rw (← c.self.view_is) at c.make_space.ensures in
     let z = e.shifted in
-    rw c.open.ensures (opened_inv _ _ _ _ _ _ v e.space (rw (← z.half, ← z.total, ← same_count u.table s.table z.same) at c.requires.half_bound))
+    rw c.open.ensures (opened_inv _ _ _ _ _ _ v e.space (rw (← z.half, ← z.total, ← same_count u.table s.table z.same) at c.requires.fits))
 
 pub returns : goal.returns
 unfolding spent
@@ -31,7 +31,7 @@ returns c =
     let e = rw (← c.self.view_is) at c.make_space.ensures in
     let z = e.shifted in
     let k = same_count u.table s.table z.same in
-    let fit = rw (← z.half, ← z.total, ← k) at c.requires.half_bound in
+    let fit = rw (← z.half, ← z.total, ← k) at c.requires.fits in
     let n = opened_length _ _ _ _ _ _ v e.space fit in
     rw c.open.ensures (record {
       counts = (omega (arith, n, k), z.total);

@@ -28,7 +28,7 @@ release-requires c =
     let a = live_back s.table s.half i (sym c.if-not-in_use.ensures.says) in
     let b = live_back u.table u.half i (ap (λ (p : ℕ × List Bool). get_or p.1 i false) e.same ∙ sym c.if-not-in_use.ensures.says) in
     let l : i < length (lists s.table s.half) = omega (arith, a.0, few _ _ _ _ _ _ v, length_lists s.table s.half (few _ _ _ _ _ _ v)) in
-    record { there = b.0; i_value = sym (lists_at u.table u.half i) ∙ ap (λ (y : List (List ℕ)). get_or y i []) e.after ∙ get_or-set_same (lists s.table s.half) i [] [] l }
+    record { there = b.0; bare = sym (lists_at u.table u.half i) ∙ ap (λ (y : List (List ℕ)). get_or y i []) e.after ∙ get_or-set_same (lists s.table s.half) i [] [] l }
 
 pub returns : goal.returns
 unfolding bounds model

@@ -70,7 +70,7 @@ invariant_of-self-2 c =
     rw c.count-n.ensures (hinted_inv _ _ _ _ _ _ v (λ k h. u.before k (omega arith)))
 
 pub enlarge-requires : goal.enlarge-requires
-enlarge-requires c = record { half_bound = omega (arith, c.if-spare-lt8.false, rw (← c.self.view_is) at c.spare.ensures.left) }
+enlarge-requires c = record { fits = omega (arith, c.if-spare-lt8.false, rw (← c.self.view_is) at c.spare.ensures.left) }
 
 pub returns : goal.returns
 unfolding bounds model spent

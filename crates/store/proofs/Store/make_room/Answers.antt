@@ -13,7 +13,7 @@ returns-then-m-room_of c =
       shifted = record { half = refl; total = refl; same = refl; used = refl };
       wide = omega (arith, c.if-m-room_of.true);
       cost = λ x e. stay_cost (pressed s 0) (strain s.table) (tense (nth s.table c.args.i)) c.args.len c.args.more (nth s.table c.args.i).room x
-          (rw r.len_value) e;
+          (rw r.length_is) e;
     }
 
 pub widen-requires : goal.widen-requires
@@ -22,7 +22,7 @@ widen-requires c =
     let s = c.args.self.now in
     let t = c.make_space.new.self in
     let e = c.make_space.ensures in
-    record { there = omega (arith, r.there, same_count t.table s.table e.shifted.same); len_value = r.len_value ∙ sym (ap length (words_same t.table s.table c.args.i e.shifted.same)); len_le_r = omega arith; r_bound = e.space }
+    record { there = omega (arith, r.there, same_count t.table s.table e.shifted.same); length_is = r.length_is ∙ sym (ap length (words_same t.table s.table c.args.i e.shifted.same)); holds = omega arith; free = e.space }
 
 pub returns : goal.returns
 returns c =
@@ -38,7 +38,7 @@ returns c =
     let f = c.widen.ensures in
     let z = shifted_trans s t u e.shifted f.shifted in
     let late = late_tense len more n refl in
-    let same : length (nth u.table i).words ≡ len = ap length (words_same u.table s.table i z.same) ∙ sym r.len_value in
+    let same : length (nth u.table i).words ≡ len = ap length (words_same u.table s.table i z.same) ∙ sym r.length_is in
     let quiet : tense (nth u.table i) ≡ 0 = rw (f.wide, same) late.1 in
     record {
       shifted = z;
@@ -46,6 +46,6 @@ returns c =
       cost = λ x q.
           let y : x ≡ strain u.table = omega (arith, rw f.wide at q, quiet, late.0) in
           rw y (room_cost (pressed s 0) (pressed t n) (pressed u 0) (strain s.table) (strain t.table) (strain u.table)
-          (tense (nth s.table i)) (tense (nth t.table i)) len more (nth s.table i).room n (rw r.len_value (omega (arith, c.room_of.ensures)))
-          (omega (arith, c.if-m-room_of.false, c.room_of.ensures.is)) refl (rw r.len_value) e.cost f.cost (e.eased i r.there) f.eased);
+          (tense (nth s.table i)) (tense (nth t.table i)) len more (nth s.table i).room n (rw r.length_is (omega (arith, c.room_of.ensures)))
+          (omega (arith, c.if-m-room_of.false, c.room_of.ensures.is)) refl (rw r.length_is) e.cost f.cost (e.eased i r.there) f.eased);
     }

@@ -11,7 +11,7 @@ invariant_of-self c =
     let p : Sound s = c.self.invariant in
     let q = rw (← c.self.view_is) at c.requires in
     let r = c.retire.ensures in
-    rw c.min-self-inside.ensures (retired_inv _ _ _ _ _ _ p _ _ r q.there q.i_value)
+    rw c.min-self-inside.ensures (retired_inv _ _ _ _ _ _ p _ _ r q.there q.bare)
 
 pub returns : goal.returns
 unfolding spent
@@ -21,8 +21,8 @@ returns c =
     let q = rw (← c.self.view_is) at c.requires in
     let r = c.retire.ensures in
     rw (← c.self.view_is) (record {
-      bounds = (refl, retired_lives _ _ _ _ _ _ p _ _ r q.there q.i_value);
-      same = retired_lists _ _ _ _ _ _ p _ _ r q.there q.i_value;
+      bounds = (refl, retired_lives _ _ _ _ _ _ p _ _ r q.there q.bare);
+      same = retired_lists _ _ _ _ _ _ p _ _ r q.there q.bare;
       cost = fewer_cost s.moved s.half s.low s.hi (length s.table.segments) (length c.retire.new.self.segments) (strain s.table) (strain c.retire.new.self)
-          r.within (retired_strain _ _ _ _ _ _ p _ _ r q.there q.i_value);
+          r.within (retired_strain _ _ _ _ _ _ p _ _ r q.there q.bare);
     })

@@ -47,7 +47,7 @@ unfolding Held bounds model
 make_room-requires c =
     let s = c.args.self.now in
     let i = live_back s.table s.half c.args.i (sym c.if-not-in_use.ensures.says) in
-    record { there = i.0; len_value = c.len-len.ensures ∙ ap length (lists_at s.table s.half c.args.i); more_bound = omega (arith, c.if-m-spare.false, c.spare-spare.ensures.left); small = c.spare-spare.ensures.small }
+    record { there = i.0; length_is = c.len-len.ensures ∙ ap length (lists_at s.table s.half c.args.i); fits = omega (arith, c.if-m-spare.false, c.spare-spare.ensures.left); small = c.spare-spare.ensures.small }
 
 pub returns : goal.returns
 unfolding Held bounds model

@@ -8,21 +8,21 @@ use Rattle.store.proofs.StoreLaws.{strain_placed, widened, widen_cost}
 use Rattle.store.proofs.Store.widen.Goals as goal
 
 pub overflow_sub-at : goal.overflow_sub-at
-overflow_sub-at c = omega (arith, rw (← c.self.view_is) at c.requires.r_bound, c.self.invariant.side)
+overflow_sub-at c = omega (arith, rw (← c.self.view_is) at c.requires.free, c.self.invariant.side)
 
 pub relocate-requires : goal.relocate-requires
 relocate-requires c =
     let s = fields c.self.inside in
     let p : Sound s = c.self.invariant in
     let r = rw (← c.self.view_is) at c.requires in
-    record { there = r.there; fits = omega (arith, r.len_value, r.len_le_r); behind_table = omega (arith, r.r_bound, p.side); in_bounds = omega (arith, r.r_bound, p.side, p.ceil, p.long); free = λ k h. inl (omega (arith, (p.within k (omega arith) h).0, r.r_bound, p.side)) }
+    record { there = r.there; fits = omega (arith, r.length_is, r.holds); behind_table = omega (arith, r.free, p.side); in_bounds = omega (arith, r.free, p.side, p.ceil, p.long); free = λ k h. inl (omega (arith, (p.within k (omega arith) h).0, r.free, p.side)) }
 
 pub invariant_of-self : goal.invariant_of-self
 invariant_of-self c =
     let s = fields c.self.inside in
     let p : Sound s = c.self.invariant in
     let r = rw (← c.self.view_is) at c.requires in
-    rw c.relocate.ensures (widened _ _ _ _ _ _ p c.args.i (s.low - c.args.r) c.args.r r.there (omega (arith, r.r_bound, p.side)) (omega (arith, r.r_bound, p.side)))
+    rw c.relocate.ensures (widened _ _ _ _ _ _ p c.args.i (s.low - c.args.r) c.args.r r.there (omega (arith, r.free, p.side)) (omega (arith, r.free, p.side)))
 
 pub returns : goal.returns
 returns c =
@@ -35,6 +35,6 @@ returns c =
       shifted = record { half = refl; total = refl; same = segs_kept s.table i one refl; used = marks_kept s.table i one refl };
       wide = ap (λ (x : Segment). x.room) (nth_same s.table i one r.there);
       counts = c.saturating_add-self-inside.ensures;
-      cost = rw (length-set s.table.segments i one) (widen_cost s.moved c.saturating_add-self-inside.result s.half (length s.table.segments) s.hi s.low c.args.r c.args.len r.r_bound (omega (arith, c.saturating_add-self-inside.ensures)));
-      eased = rw r.len_value (strain_placed s.table i one r.there);
+      cost = rw (length-set s.table.segments i one) (widen_cost s.moved c.saturating_add-self-inside.result s.half (length s.table.segments) s.hi s.low c.args.r c.args.len r.free (omega (arith, c.saturating_add-self-inside.ensures)));
+      eased = rw r.length_is (strain_placed s.table i one r.there);
     })
