@@ -456,10 +456,8 @@ impl Store<'_> {
         if i > from {
             return None;
         }
-        let mut left = k;
-        while left > 0 {
-            left -= 1;
-            let _ = self.remove(i + left);
+        for q in (0..k).rev() {
+            let _ = self.remove(i + q);
         }
         if i < from {
             return Some(from);

@@ -42,9 +42,9 @@ returns-then-i-from c =
       cost = omega arith;
     })
 
-pub loop-left-init : goal.loop-left-init
+pub loop-q-init : goal.loop-q-init
 unfolding Held
-loop-left-init c =
+loop-q-init c =
     let s = fields c.self.inside in
     let v : Held s = c.self.invariant in
     let n = length s.table.segments in
@@ -52,17 +52,14 @@ loop-left-init c =
     let m = c.args.i + c.args.k in
     let x = extent_count s v in
     let d = rw (← c.self.view_is) at c.requires.dense in
-    rw (← c.self.view_is, q) (given_none s c.args.i (n - c.args.k) c.args.k v d (omega (arith, c.if-k-n.false, q)), omega arith)
+    rw (← c.self.view_is, q) (given_none s c.args.i (n - c.args.k) c.args.k v d (omega (arith, c.if-k-n.false, q)))
 
-pub loop-left-preserved : goal.loop-left-preserved
-loop-left-preserved c =
-    let s = c.args.self.now in
+pub loop-q-preserved : goal.loop-q-preserved
+loop-q-preserved c =
     let e = c.remove.ensures in
-    let j = c.loop-left.left in (
-      given_step s c.loop-left.self c.remove.new.self c.args.i (c.count-n.result - c.args.k) c.args.k j (j - 1) c.loop-left.invariant.0
-          (omega (arith, c.loop-left-test.true)) c.if-i-from.false e.same e.after e.cost,
-      omega (arith, c.loop-left.invariant.1),
-    )
+    let j = c.loop-q.q in
+    given_step c.args.self.now c.loop-q.self c.remove.new.self c.args.i (c.count-n.result - c.args.k) c.args.k j (j - 1) c.loop-q.invariant
+    (omega arith) c.if-i-from.false e.same e.after e.cost
 
 pub returns-then-i-from-2 : goal.returns-then-i-from-2
 unfolding Held
@@ -73,12 +70,12 @@ returns-then-i-from-2 c =
     let q = c.count-n.ensures in
     let m = c.args.i + c.args.k in
     let x = extent_count s v in
-    let y : Given s c.loop-left.self c.args.i (n - c.args.k) c.args.k c.loop-left.left = rw (← c.self.view_is, q) at c.loop-left.invariant.0 in
-    let g = given_all s c.loop-left.self c.args.i (n - c.args.k) c.args.k c.loop-left.left y c.loop-left-test.false in
+    let y : Given s c.loop-q.self c.args.i (n - c.args.k) c.args.k c.loop-q.q = rw (← c.self.view_is, q) at c.loop-q.invariant in
+    let g = given_all s c.loop-q.self c.args.i (n - c.args.k) c.args.k c.loop-q.q y (omega arith) in
     let h : m ≤ n = omega (arith, c.if-k-n.false, c.if-i-from.false, q) in
     rw (← c.self.view_is) (record {
       there = extent_there s v;
-      dense = given_dense s c.loop-left.self c.args.i (n - c.args.k) c.args.k c.loop-left.left y;
+      dense = given_dense s c.loop-q.self c.args.i (n - c.args.k) c.args.k c.loop-q.q y;
       same = rw (x, le-leb m n h) g.0;
       after = rw (x, le-leb m n h) g.1;
       says = rw (x, lt-ltb m n (omega (arith, c.if-i-from-2.true, q)), q);
@@ -94,12 +91,12 @@ returns c =
     let q = c.count-n.ensures in
     let m = c.args.i + c.args.k in
     let x = extent_count s v in
-    let y : Given s c.loop-left.self c.args.i (n - c.args.k) c.args.k c.loop-left.left = rw (← c.self.view_is, q) at c.loop-left.invariant.0 in
-    let g = given_all s c.loop-left.self c.args.i (n - c.args.k) c.args.k c.loop-left.left y c.loop-left-test.false in
+    let y : Given s c.loop-q.self c.args.i (n - c.args.k) c.args.k c.loop-q.q = rw (← c.self.view_is, q) at c.loop-q.invariant in
+    let g = given_all s c.loop-q.self c.args.i (n - c.args.k) c.args.k c.loop-q.q y (omega arith) in
     let h : m ≤ n = omega (arith, c.if-k-n.false, c.if-i-from.false, q) in
     rw (← c.self.view_is) (record {
       there = extent_there s v;
-      dense = given_dense s c.loop-left.self c.args.i (n - c.args.k) c.args.k c.loop-left.left y;
+      dense = given_dense s c.loop-q.self c.args.i (n - c.args.k) c.args.k c.loop-q.q y;
       same = rw (x, le-leb m n h) g.0;
       after = rw (x, le-leb m n h) g.1;
       says = rw (x, le-ltb m n (omega (arith, c.if-i-from-2.false, q)));
