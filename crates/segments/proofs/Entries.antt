@@ -1,9 +1,8 @@
 -- Two segments that change places, and one that is new.
-use Rattle.std.proofs.Common.{◌≡◌, ℕ, ◌+◌, ◌-◌, ◌*◌, ◌<◌, ◌≤◌, ◌≢◌, ◌⊎◌, List, [], ◌∷◌, ◌++◌, length, get_or, take, drop, set, sym, refl, ap, ◌∙◌, ap₂, inl, inr, ⊎_elim, arith}
-use Rattle.std.proofs.lemmas.List.{ext_get_or, length-set, get_or-set_same, get_or-set_other}
+use Rattle.std.proofs.Common.{◌≡◌, ℕ, ◌+◌, ◌*◌, ◌<◌, ◌≤◌, ◌≢◌, ◌⊎◌, List, [], ◌∷◌, ◌++◌, length, take, drop, refl, ap, ◌∙◌, ap₂, inl, inr, ⊎_elim, arith}
 use Rattle.std.proofs.lemmas.Bool.{cases_eq}
-use Rattle.segments.specs.Layout.{field, filed, start, size, room, mark, seg, segs, Good, Exchanged, Opened, Marked}
-use Rattle.segments.proofs.Table.{length_filed, field_same, field_part, field_other, drop_filed, seg_same, segs_at, length_segs, segs_same, segs_more}
+use Rattle.segments.specs.Layout.{field, filed, start, size, room, mark, seg, Good, Exchanged, Opened, Marked}
+use Rattle.segments.proofs.Table.{length_filed, field_same, field_part, field_other, drop_filed, seg_same, segs_same, segs_more}
 
 abbrev pub traded : List ℕ → ℕ → ℕ → ℕ → List ℕ
 traded w i j c = filed (filed w i c (field w j c)) j c (field w i c)

@@ -1,7 +1,7 @@
 -- A segment of a table that is now another.
-use Rattle.std.proofs.Common.{◌≡◌, ℕ, ◌<◌, ◌≤◌, Bool, true, false, ◌≢◌, List, [], ◌++◌, map, length, get_or, set, sym, ap, ◌∙◌, ⊎_elim, arith}
-use Rattle.std.proofs.lemmas.List.{get_or-set_same, get_or-set_other, get_or_past, length-set, length-map, map-set, get_or-map, set_past, set-get_or, map-append}
-use Rattle.std.proofs.lemmas.Bool.{cases_eq, cases_lt}
+use Rattle.std.proofs.Common.{◌≡◌, ℕ, ◌<◌, ◌≤◌, false, ◌≢◌, List, [], map, length, get_or, set, sym, ap, ◌∙◌, ⊎_elim, arith}
+use Rattle.std.proofs.lemmas.List.{get_or-set_same, get_or-set_other, get_or_past, length-map, map-set, get_or-map, set-get_or}
+use Rattle.std.proofs.lemmas.Bool.{cases_lt}
 use Rattle.segments.specs.Table.{Segment, Table, none, nth, segs, marks, placed, written}
 
 pub nth_same : (t : Table) (i : ℕ) (s : Segment) → i < length t.segments → nth (placed t i s) i ≡ s

@@ -1,7 +1,7 @@
 -- Numbers in two words, and stretches of words.
-use Rattle.std.proofs.Common.{◌≡◌, ℕ, ◌+◌, ◌-◌, ◌*◌, ◌/◌, ◌%◌, ◌<◌, ◌≤◌, ◌≢◌, ◌⊎◌, List, [], ◌∷◌, ◌++◌, append_assoc, length, get_or, take, drop, set, sym, ap, ◌∙◌, ap₂, inl, inr, ⊎_elim, arith}
+use Rattle.std.proofs.Common.{◌≡◌, ℕ, ◌+◌, ◌-◌, ◌*◌, ◌/◌, ◌%◌, ◌<◌, ◌≤◌, ◌≢◌, ◌⊎◌, List, [], ◌∷◌, ◌++◌, append_assoc, length, get_or, take, drop, set, sym, ap, ◌∙◌, ap₂, inl, inr, arith}
 use Rattle.std.proofs.Math.Seq.{take-append_seam, drop-append_seam}
-use Rattle.std.proofs.lemmas.List.{length-append, get_or-set_same, get_or-set_other, length-set, length-take-le, length-drop, get_or-take, get_or-drop, take-set-le, drop-set-lt, drop-set-add, take_more, take_more_set, take-take, drop-take, drop-drop, drop-set}
+use Rattle.std.proofs.lemmas.List.{length-append, get_or-set_same, get_or-set_other, length-set, length-take-le, length-drop, get_or-take, take-set-le, drop-set-lt, take-take, drop-take, drop-drop, drop-set}
 use Rattle.std.proofs.lemmas.Nat.{div-add-mod'}
 use Rattle.segments.specs.Words.{at64, put64, Written}
 

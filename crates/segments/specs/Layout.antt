@@ -1,5 +1,5 @@
 -- Segments of growable length in a list of words. In front a table, eight words for each.
-use Rattle.std.specs.Prelude.{◌≡◌, ℕ, zero, suc, ◌+◌, ◌-◌, ◌*◌, ◌/◌, ◌<◌, ◌≤◌, Bool, ◌≢◌, ◌⊎◌, List, [], ◌∷◌, ◌++◌, map, length, take, drop, sum_by, nat_eq, slice_index_or, slice_set}
+use Rattle.std.specs.Prelude.{◌≡◌, ℕ, ◌+◌, ◌*◌, ◌/◌, ◌<◌, ◌≤◌, ◌≢◌, ◌⊎◌, List, [], ◌∷◌, ◌++◌, map, length, take, drop, sum_by, nat_eq, slice_set}
 use Rattle.std.specs.List.{range_with_len}
 use Rattle.segments.specs.Words.{at64, put64}
 use Rattle.segments.specs.Table.{Segment, Table}

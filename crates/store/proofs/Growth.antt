@@ -2,8 +2,8 @@
 use Rattle.std.proofs.Common.{◌≡◌, ℕ, ◌+◌, ◌-◌, ◌*◌, ◌/◌, ◌<◌, ◌≤◌, Bool, true, false, List, [], ◌++◌, length, get_or, set, sym, ap, ◌∙◌, ap₂, arith}
 use Rattle.std.proofs.lemmas.List.{length-append, length-set}
 use Rattle.std.proofs.lemmas.Bool.{false≢true}
-use Rattle.segments.specs.Table.{Segment, Table, nth, segs, marks, written, strain}
-use Rattle.store.specs.Layout.{Layout, lists, lives, Inv}
+use Rattle.segments.specs.Table.{Segment, nth, written, strain}
+use Rattle.store.specs.Layout.{Layout, lists, lives}
 use Rattle.store.specs.Held.{Sound, Shifted, Reserved, pressed}
 use Rattle.segments.proofs.Placed.{words_same}
 use Rattle.store.proofs.Totals.{lists_at, lists_by, lives_by, there}

@@ -1,10 +1,10 @@
 -- Numbers that come into use and go out of it, and lists that change places.
-use Rattle.std.proofs.Common.{◌≡◌, ℕ, zero, suc, ◌+◌, ◌-◌, ◌*◌, ◌/◌, ◌<◌, ◌≤◌, min, Bool, true, false, ◌≢◌, List, [], ◌∷◌, ◌++◌, length, get_or, set, sym, refl, ap, ◌∙◌, inl, inr, ⊎_elim, arith}
+use Rattle.std.proofs.Common.{◌≡◌, ℕ, zero, suc, ◌+◌, ◌-◌, ◌*◌, ◌/◌, ◌<◌, ◌≤◌, min, Bool, true, false, ◌≢◌, List, [], ◌∷◌, length, get_or, set, sym, refl, ap, ◌∙◌, inr, ⊎_elim, arith}
 use Rattle.std.specs.List.{prefix_len}
 use Rattle.std.proofs.lemmas.List.{length-set, length-append, get_or_append_left, get_or-append_right, get_or-set_other}
 use Rattle.std.proofs.lemmas.Bool.{cases_eq, cases_lt, false≢true}
 use Rattle.segments.specs.Layout.{need}
-use Rattle.segments.specs.Table.{Segment, Table, none, nth, segs, marks, placed, marked, as_used, exchanged, opened, Retired, Within, tense, upto, strain}
+use Rattle.segments.specs.Table.{Segment, Table, none, nth, segs, placed, marked, as_used, exchanged, opened, Retired, tense, upto, strain}
 use Rattle.store.specs.Layout.{lists, lives, Inv}
 use Rattle.segments.proofs.Placed.{nth_same, nth_other, nth_past, segs_at, segs_placed, length_segs}
 use Rattle.segments.proofs.Moves.{need_set}

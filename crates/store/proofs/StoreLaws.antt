@@ -1,16 +1,16 @@
 -- What keeps a store in order.
-use Rattle.std.proofs.Common.{◌≡◌, ℕ, ◌+◌, ◌-◌, ◌*◌, ◌/◌, ◌^◌, ◌<◌, ◌≤◌, Bool, true, false, ◌≢◌, ◌⊎◌, List, [], length, get_or, set, sym, refl, ap, ◌∙◌, ap₂, inl, inr, ⊎_elim, arith, w64, Fits}
+use Rattle.std.proofs.Common.{◌≡◌, ℕ, ◌+◌, ◌-◌, ◌*◌, ◌/◌, ◌^◌, ◌<◌, ◌≤◌, Bool, true, false, ◌≢◌, ◌⊎◌, List, [], length, get_or, set, sym, refl, ap, ◌∙◌, inl, inr, ⊎_elim, arith, w64, Fits}
 use Rattle.std.proofs.lemmas.List.{length-set, set-get_or, set_past}
-use Rattle.std.proofs.lemmas.Bool.{cases_eq, cases_lt, le-leb, lt-leb, false≢true}
+use Rattle.std.proofs.lemmas.Bool.{cases_eq, cases_lt, le-leb, lt-leb}
 use Rattle.segments.specs.Layout.{need, spread}
 use Rattle.segments.specs.Table.{Segment, Table, nth, segs, marks, placed, written, moved, Within, tense, upto, strain}
 use Rattle.store.specs.Sums.{extent, enough}
 use Rattle.store.specs.Layout.{Layout, lists, lives, Inv}
-use Rattle.store.specs.Held.{Sound, Shifted}
+use Rattle.store.specs.Held.{Shifted}
 use Rattle.segments.proofs.Placed.{nth_same, nth_other, nth_past, segs_at, marks_at, length_segs, segs_placed, segs_kept, marks_kept, words_same}
 use Rattle.segments.proofs.Moves.{need_set, need_at, spread_le}
 use Rattle.segments.proofs.Upto.{upto_one, upto_none}
-use Rattle.store.proofs.Totals.{lists_at, lists_set, lists_by, lives_by, lives_at, need_lists, there, extent_lives}
+use Rattle.store.proofs.Totals.{lists_at, lists_set, lives_by, lives_at, need_lists, there, extent_lives}
 
 -- segments with the same words, or as much in use
 pub same_count : (t u : Table) → segs t ≡ segs u → length t.segments ≡ length u.segments

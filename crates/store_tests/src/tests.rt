@@ -97,7 +97,7 @@ fn fresh_refused_at_the_word(rt: HostRuntime) -> Result<(), Fail> {
 
 /// Two blocks of two lists behind list 0; the last goes to the place of the first, and then goes out itself.
 fn two_blocks(rt: &impl Abort, st: &mut Store) -> Result<(), Fail>
-    requires dense { Dense (bounds st.old).1 }
+    requires { Dense (bounds st.old).1 }
 {
     assert_eq!(rt; st.fresh_block(5), Some(0));
     st.push(3, 30)?;

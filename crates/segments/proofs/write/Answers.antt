@@ -1,5 +1,3 @@
-use Rattle.std.proofs.Common.{ℕ, ap, ◌+◌, ◌*◌}
-use Rattle.segments.specs.Words.{put64}
 use Rattle.segments.specs.Layout.{filed}
 use Rattle.segments.proofs.write.Goals as goal
 

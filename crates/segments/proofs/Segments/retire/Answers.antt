@@ -1,5 +1,5 @@
 use Rattle.std.proofs.Common.{arith}
-use Rattle.segments.specs.Layout.{table, Marked}
+use Rattle.segments.specs.Layout.{Marked}
 use Rattle.segments.proofs.Views.{retired_view, here}
 use Rattle.segments.proofs.Entries.{marked_is}
 use Rattle.segments.proofs.Segments.retire.Goals.{After-used_front-end}

@@ -5,7 +5,7 @@ use Rattle.segments.specs.Table.{Segment, nth}
 use Rattle.segments.proofs.Placed.{nth_past}
 use Rattle.store.specs.Fields.{fields}
 use Rattle.store.specs.Held.{Sound, model, bounds, spent}
-use Rattle.store.proofs.Totals.{lists_at, there}
+use Rattle.store.proofs.Totals.{lists_at}
 use Rattle.store.proofs.StoreLaws.{size_le, changed_inv, changed_model, changed_bounds, shrunk_strain}
 use Rattle.store.proofs.Store.truncate.Goals as goal
 
