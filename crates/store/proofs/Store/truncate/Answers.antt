@@ -1,45 +1,83 @@
-use Rattle.std.proofs.Common.{◌≡◌, ◌-◌, ◌<◌, ◌≤◌, ◌≢◌, [], length, get_or, take, sym, refl, arith}
-use Rattle.std.proofs.lemmas.List.{length-take-le, take_all, set-get_or}
-use Rattle.segments.specs.Layout.{mark, Changed}
-use Rattle.store.specs.Held.{lists, Held, model, bounds, spent}
+use Rattle.std.proofs.Common.{◌≡◌, ◌-◌, ◌<◌, ◌≤◌, false, [], length, get_or, take, sym, refl, ap, ⊎_elim, arith}
+use Rattle.std.proofs.lemmas.List.{length-set, take_all, length-take-le, set-get_or}
+use Rattle.std.proofs.lemmas.Bool.{cases_lt}
+use Rattle.segments.specs.Table.{Segment, nth}
+use Rattle.segments.proofs.Placed.{nth_past}
+use Rattle.store.specs.Fields.{fields}
+use Rattle.store.specs.Held.{Sound, model, bounds, spent}
 use Rattle.store.proofs.Totals.{lists_at}
-use Rattle.store.proofs.StoreLaws.{there, old_size, size_le, dead_old, past_old, changed_inv, changed_model, changed_bounds, shrunk_strain}
+use Rattle.store.proofs.StoreLaws.{size_le, changed_inv, changed_model, changed_bounds, shrunk_strain}
 use Rattle.store.proofs.Store.truncate.Goals as goal
 
 pub returns-then-m-len : goal.returns-then-m-len
-unfolding Held model bounds spent
+unfolding model bounds spent
 returns-then-m-len c =
     let l = get_or (model c.args.self.now) c.args.i [] in
     let h : length l ≤ c.args.m = omega (arith, c.if-m-len.true, c.len-len.ensures) in
-    record { held = c.requires; same = refl; after = sym (rw (take_all c.args.m l h) (set-get_or (model c.args.self.now) c.args.i [])); cost = omega arith }
+    record { same = refl; after = sym (rw (take_all c.args.m l h) (set-get_or (model c.args.self.now) c.args.i [])); cost = omega arith }
 
+-- list i is there, and has as many words
 pub cut-requires : goal.cut-requires
-unfolding Held model
+unfolding model
 cut-requires c =
-    let h = there _ _ _ _ _ _ _ c.requires c.args.i c.args.m (omega (arith, c.if-m-len.false, c.len-len.ensures)) in
-    record { good = c.requires.good; i_lt_n = h; m_bound = omega (arith, c.if-m-len.false, c.len-len.ensures, old_size _ _ _ _ _ _ _ c.requires c.args.i h) }
+    let s = fields c.self.inside in
+    let i = c.args.i in
+    let m = c.args.m in
+    let v : Sound s = c.self.invariant in
+    let q : c.len-len.result ≡ length (nth s.table i).words = rw lists_at at (rw (← c.self.view_is) at c.len-len.ensures) in
+    let h : m < length (nth s.table i).words = omega (arith, q, c.if-m-len.false) in
+    record {
+      there = ⊎_elim
+          (λ (z : i < length s.table.segments). z)
+          (λ (z : length s.table.segments ≤ i). absurd (omega (arith, ap (λ (y : Segment). length y.words) (nth_past s.table i z))))
+          (cases_lt i (length s.table.segments));
+      within = omega arith;
+    }
 
 pub overflow_sub-self-2 : goal.overflow_sub-self-2
-unfolding Held model
-overflow_sub-self-2 c = omega (arith, c.len-len.ensures, size_le _ _ _ _ _ _ _ c.requires c.args.i)
+unfolding model
+overflow_sub-self-2 c =
+    let s = fields c.self.inside in
+    let i = c.args.i in
+    let m = c.args.m in
+    let v : Sound s = c.self.invariant in
+    let q : c.len-len.result ≡ length (nth s.table i).words = rw lists_at at (rw (← c.self.view_is) at c.len-len.ensures) in
+    let h : m < length (nth s.table i).words = omega (arith, q, c.if-m-len.false) in
+    omega (arith, size_le _ _ _ _ _ _ v i)
+
+pub invariant_of-self : goal.invariant_of-self
+unfolding model
+invariant_of-self c =
+    let s = fields c.self.inside in
+    let i = c.args.i in
+    let m = c.args.m in
+    let v : Sound s = c.self.invariant in
+    let q : c.len-len.result ≡ length (nth s.table i).words = rw lists_at at (rw (← c.self.view_is) at c.len-len.ensures) in
+    let h : m < length (nth s.table i).words = omega (arith, q, c.if-m-len.false) in
+    let x = take m (nth s.table i).words in
+    let d : (nth s.table i).used ≡ false → x ≡ [] = λ u. rw (v.empty i u) (take_all m [] (omega arith)) in
+    let l : length x ≡ m = length-take-le m (nth s.table i).words (omega arith) in
+    let b = size_le _ _ _ _ _ _ v i in
+    rw c.cut.ensures (changed_inv _ _ _ _ _ _ v i (s.total - (c.len-len.result - m)) x d (omega arith) (omega (arith, v.bound)))
 
 pub returns : goal.returns
-unfolding Held model bounds spent
+unfolding model bounds spent
 returns c =
-    let s = c.args.self.now in
-    let w = s.words.now in
+    let s = fields c.self.inside in
     let i = c.args.i in
-    let l = get_or (lists w s.half s.count) i [] in
-    let x = take c.args.m l in
-    let e : Changed w c.cut.new.w s.count i x = rw (lists_at w s.half s.count i) c.cut.ensures in
-    let d : i < s.count → mark w i ≢ 1 → x ≡ [] = λ h m. rw (dead_old _ _ _ _ _ _ _ c.requires i h m) (take_all c.args.m [] (omega arith)) in
-    let p : s.count ≤ i → x ≡ [] = λ h. rw (past_old _ _ _ _ _ _ _ c.requires i h) (take_all c.args.m [] (omega arith)) in
-    let z : length x ≡ c.args.m = length-take-le c.args.m l (omega (arith, c.if-m-len.false, c.len-len.ensures)) in
-    let b = size_le _ _ _ _ _ _ _ c.requires i in
-    let t = s.total - (c.len-len.result - c.args.m) in
-    record {
-      held = changed_inv _ _ _ _ _ _ _ c.requires _ i t x e c.cut.auto.w d p (omega (arith, z, b, c.len-len.ensures, c.if-m-len.false)) (omega (arith, c.requires.bound));
-      same = changed_bounds _ _ _ _ _ _ _ c.requires _ i t x e c.cut.auto.w d p;
-      after = changed_model _ _ _ _ _ _ _ c.requires _ i t x e c.cut.auto.w d p;
-      cost = omega (arith, shrunk_strain _ _ _ _ _ _ _ c.requires _ i t x e c.cut.auto.w d p (omega (arith, z, c.if-m-len.false, c.len-len.ensures)));
-    }
+    let m = c.args.m in
+    let v : Sound s = c.self.invariant in
+    let q : c.len-len.result ≡ length (nth s.table i).words = rw lists_at at (rw (← c.self.view_is) at c.len-len.ensures) in
+    let h : m < length (nth s.table i).words = omega (arith, q, c.if-m-len.false) in
+    let x = take m (nth s.table i).words in
+    let d : (nth s.table i).used ≡ false → x ≡ [] = λ u. rw (v.empty i u) (take_all m [] (omega arith)) in
+    let l : length x ≡ m = length-take-le m (nth s.table i).words (omega arith) in
+    rw (← c.self.view_is, c.cut.ensures) (record {
+      same = changed_bounds _ _ _ _ _ _ v i s.total x d;
+      after = rw lists_at (changed_model _ _ _ _ _ _ v i s.total x d);
+      cost = omega (
+        arith,
+        shrunk_strain _ _ _ _ _ _ v i s.total x d (omega arith),
+        length-set s.table.segments i (record { start = (nth s.table i).start; room = (nth s.table i).room; words = x; used = (nth s.table i).used }),
+      );
+    })
