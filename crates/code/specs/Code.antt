@@ -2,7 +2,7 @@
 -- command or a part of a word by that of its cell; 0 is the end of a chain. A word past the end reads as 0.
 use Rattle.std.specs.Prelude.{◌≡◌, ℕ, ◌+◌, ◌<◌, List, take, drop, slice_index}
 use Rattle.syntax.specs.Tree.{WordPart, literal, parameter, substitution, Word, no_parts, and_part, Words, no_words, and_word, Assignments, no_assignments, assign, Redirects, no_redirects, redirect, Command, simple, group, subshell, if, while, for, case, function, ElsePart, no_else, else, Arms, no_arms, arm, Pipeline, single, piped, AndOr, first, joined, CommandList, end, next}
-use Rattle.reader.specs.Layout.{flag, kind_code}
+use Rattle.code.specs.Layout.{flag, kind_code}
 
 module _ (text words : List ℕ) where
   -- bytes of the text: their start stands at a, their number at b
