@@ -4,13 +4,13 @@ use mathlib.Core.Option.{some}
 use Rattle.std.proofs.lemmas.List.{drop_more, drop_all}
 use Rattle.syntax.specs.Base.{pick, opt, same, Name}
 use Rattle.syntax.specs.Tree.{no_redirects}
-use Rattle.reader.specs.Layout.{flag}
+use Rattle.code.specs.Layout.{flag}
 use Rattle.meaning.specs.System.{QuotedByte, b_print, b_done, b_yes, b_head, b_wc, b_grep, then_invoke, at_list, at_redirects, at_unwind, at_wait, break, continue, return, exit, Frame, f_arguments, Process, System, function_body}
 use Rattle.meaning.specs.Words.{bytes_of, as_line, join_words, first_or, tail_of, test_status}
 use Rattle.meaning.specs.Step.{name_echo, name_cat, name_head, name_wc, name_grep, name_seq, name_rm, name_yes, name_true, name_false, name_test, name_read, name_exit, name_return, name_break, name_continue, name_shift, name_wait, StepResult, step, goes_to, completes, start_builtin, start_cat, start_seq, start_counted, start_unwind, start_read, remove_files, run_builtin, with_arguments, with_jobs}
 use Rattle.machine.specs.declared.names.BuiltinName.{BuiltinName}
 use Rattle.machine.specs.declared.names.BuiltinName.TheVariants.{Echo, Cat, Head, Wc, Grep, Seq, Rm, Yes, True, False, Test, Read, Exit, Return, Break, Continue, Shift, Wait, Other}
-use Rattle.machine.specs.Encoding.{encoded, marked, Small, named}
+use Rattle.words.specs.Encoding.{encoded, marked, Small, named}
 use Rattle.machine.specs.Commands.{name_of, name_at}
 use Rattle.machine.specs.Represent.{Rest, process}
 

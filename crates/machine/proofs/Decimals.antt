@@ -1,12 +1,13 @@
 -- Numbers as digits, the last first.
-use Rattle.std.proofs.Common.{◌≡◌, ℕ, zero, suc, ◌+◌, ◌/◌, ◌%◌, ◌<◌, ◌≤◌, Bool, true, false, ltb, List, [], ◌∷◌, ◌++◌, length, sym, refl, ap, ◌∙◌, subst, arith}
+use Rattle.std.proofs.Common.{◌≡◌, ℕ, zero, suc, ◌+◌, ◌/◌, ◌%◌, ◌<◌, ◌≤◌, Bool, true, false, ltb, List, [], ◌∷◌, ◌++◌, length, Ok, Err, Result, sym, refl, ap, ◌∙◌, subst, arith}
 use Rattle.std.proofs.lemmas.List.{append_assoc, length-append}
 use Rattle.syntax.specs.Base.{pick}
 use Rattle.meaning.specs.Words.{digits, decimal, as_line}
-use Rattle.machine.specs.Encoding.{Bytes, rev}
-use Rattle.machine.specs.Promises.{Pushed}
-use Rattle.machine.proofs.Pushes.{push_more, push_fails}
-use Rattle.machine.proofs.Texts.{rev_push, rev_length}
+use Rattle.words.specs.Encoding.{Bytes, rev}
+use Rattle.store.specs.declared.Refusal.{Refusal}
+use Rattle.words.specs.Pushed.{Pushed}
+use Rattle.words.proofs.Pushes.{push_nil, push_more, push_fails}
+use Rattle.words.proofs.Texts.{rev_push, rev_length}
 
 small : (n : ℕ) → n < 10 → ltb n 10 ≡ true
 small n h = grind arith
@@ -64,23 +65,23 @@ bytes_decimal n = bytes_line (decimal n) (bytes_digits (suc n) n [] tt)
 -- digits pushed one after the other
 pub record Digits (b : ℕ × List Bool) (i : ℕ) (m m' : List (List ℕ)) (n rest : ℕ) : Type 0 where
   pub said : List ℕ
-  pub pushed : Pushed b i m m' said true
+  pub pushed : Pushed b i m m' said (Ok tt)
   pub whole : said ++ rev (decimal rest) ≡ rev (decimal n)
 
-pub digits_none : {b : ℕ × List Bool} {i : ℕ} {m : List (List ℕ)} (n : ℕ) → Pushed b i m m [] true → Digits b i m m n n
-digits_none n h = record { said = []; pushed = h; whole = refl }
+pub digits_none : {b : ℕ × List Bool} {i : ℕ} {m : List (List ℕ)} (n : ℕ) → Digits b i m m n n
+digits_none n = record { said = []; pushed = push_nil; whole = refl }
 
-pub digits_next : {b : ℕ × List Bool} {i : ℕ} {m m₁ m₂ : List (List ℕ)} {n rest : ℕ} → Digits b i m m₁ n rest → 10 ≤ rest → Pushed b i m₁ m₂ ((48 + rest % 10) ∷ []) true → Digits b i m m₂ n (rest / 10)
-digits_next {rest = rest} d h p = record { said = d.said ++ ((48 + rest % 10) ∷ []); pushed = push_more d.pushed refl p; whole = append_assoc d.said ((48 + rest % 10) ∷ []) (rev (decimal (rest / 10))) ∙ sym (ap (λ z. d.said ++ z) (decimal_last rest h)) ∙ d.whole }
+pub digits_next : {b : ℕ × List Bool} {i : ℕ} {m m₁ m₂ : List (List ℕ)} {n rest : ℕ} {u : Unit {0}} → Digits b i m m₁ n rest → 10 ≤ rest → Pushed b i m₁ m₂ ((48 + rest % 10) ∷ []) (Ok u) → Digits b i m m₂ n (rest / 10)
+digits_next {rest = rest} d h p = record { said = d.said ++ ((48 + rest % 10) ∷ []); pushed = push_more d.pushed p; whole = append_assoc d.said ((48 + rest % 10) ∷ []) (rev (decimal (rest / 10))) ∙ sym (ap (λ z. d.said ++ z) (decimal_last rest h)) ∙ d.whole }
 
-pub digits_fails : {b : ℕ × List Bool} {i : ℕ} {m m₁ m₂ : List (List ℕ)} {n rest : ℕ} {r : Bool} → Digits b i m m₁ n rest → 10 ≤ rest → Pushed b i m₁ m₂ ((48 + rest % 10) ∷ []) r → r ≡ false → Pushed b i m m₂ (rev (decimal n)) false
-digits_fails {rest = rest} d h p e = push_fails _ (push_more d.pushed refl p) e (omega (arith, ap length d.whole, length-append d.said (rev (decimal rest)), length-append d.said ((48 + rest % 10) ∷ []), ap length (decimal_last rest h)))
+pub digits_fails : {b : ℕ × List Bool} {i : ℕ} {m m₁ m₂ : List (List ℕ)} {n rest : ℕ} {v w : Refusal} → Digits b i m m₁ n rest → 10 ≤ rest → Pushed b i m₁ m₂ ((48 + rest % 10) ∷ []) (Err v) → Pushed b i m m₂ (rev (decimal n)) (Err w)
+digits_fails {rest = rest} d h p = push_fails _ (push_more d.pushed p) (omega (arith, ap length d.whole, length-append d.said (rev (decimal rest)), length-append d.said ((48 + rest % 10) ∷ []), ap length (decimal_last rest h)))
 
-pub digits_last : {b : ℕ × List Bool} {i : ℕ} {m m₁ m₂ : List (List ℕ)} {n rest : ℕ} {r : Bool} → Digits b i m m₁ n rest → rest < 10 → Pushed b i m₁ m₂ ((48 + rest) ∷ []) r → Pushed b i m m₂ (rev (decimal n)) r
-digits_last {b} {i} {m} {m₂ = m₂} {rest = rest} {r = r} d h p = subst (λ y. Pushed b i m m₂ y r) (sym (ap (λ z. d.said ++ z) (decimal_one rest h)) ∙ d.whole) (push_more d.pushed refl p)
+pub digits_last : {b : ℕ × List Bool} {i : ℕ} {m m₁ m₂ : List (List ℕ)} {n rest : ℕ} {r : Result (Unit {0}) Refusal} → Digits b i m m₁ n rest → rest < 10 → Pushed b i m₁ m₂ ((48 + rest) ∷ []) r → Pushed b i m m₂ (rev (decimal n)) r
+digits_last {b} {i} {m} {m₂ = m₂} {rest = rest} {r = r} d h p = subst (λ y. Pushed b i m m₂ y r) (sym (ap (λ z. d.said ++ z) (decimal_one rest h)) ∙ d.whole) (push_more d.pushed p)
 
-pub decimal_line : {b : ℕ × List Bool} {i : ℕ} {m m₁ m₂ : List (List ℕ)} (n : ℕ) {p r : Bool} → Pushed b i m m₁ (10 ∷ []) p → p ≡ true → Pushed b i m₁ m₂ (rev (decimal n)) r → Pushed b i m m₂ (rev (as_line (decimal n))) r
-decimal_line n p e q = rw (rev_push (decimal n) 10) (push_more p e q)
+pub decimal_line : {b : ℕ × List Bool} {i : ℕ} {m m₁ m₂ : List (List ℕ)} (n : ℕ) {u : Unit {0}} {r : Result (Unit {0}) Refusal} → Pushed b i m m₁ (10 ∷ []) (Ok u) → Pushed b i m₁ m₂ (rev (decimal n)) r → Pushed b i m m₂ (rev (as_line (decimal n))) r
+decimal_line n p q = rw (rev_push (decimal n) 10) (push_more p q)
 
 pub line_longer : (n : ℕ) → 1 ≤ length (rev (as_line (decimal n)))
 line_longer n = omega (arith, rev_length (as_line (decimal n)), length-append (decimal n) (10 ∷ []))

@@ -1,16 +1,17 @@
 -- Numbers that are read.
-use Rattle.std.proofs.Common.{◌≡◌, ℕ, zero, suc, ◌+◌, ◌-◌, ◌*◌, ◌%◌, ◌^◌, ◌<◌, ◌≤◌, Bool, true, false, ◌&&◌, eqb, leb, List, [], ◌∷◌, ◌++◌, length, get_or, take, drop, Some, None, codes, Option as Maybe, sym, refl, ap, ◌∙◌, subst, ⊎_elim, arith, pow-add}
+use Rattle.std.proofs.Common.{◌≡◌, ℕ, zero, suc, ◌+◌, ◌-◌, ◌*◌, ◌%◌, ◌^◌, ◌<◌, ◌≤◌, Bool, true, false, ◌&&◌, eqb, leb, List, [], ◌∷◌, ◌++◌, length, get_or, take, drop, Some, None, codes, Option as Maybe, Result, sym, refl, ap, ◌∙◌, subst, ⊎_elim, arith, pow-add}
 use mathlib.Core.Option.{Option, some, none}
 use Rattle.std.proofs.lemmas.List.{drop_more, drop_all, take_at, take_all, length-take}
 use Rattle.std.proofs.lemmas.Bool.{cases_lt}
 use Rattle.syntax.specs.Base.{opt}
 use Rattle.meaning.specs.System.{QuotedByte}
 use Rattle.meaning.specs.Words.{decimal, digits_value, number, bytes_of, first_or}
-use Rattle.machine.specs.Encoding.{encoded, marked, plain, Small, AllSmall, Bytes, shown, rev, word_length}
+use Rattle.words.specs.Encoding.{encoded, marked, plain, Small, AllSmall, Bytes, shown, rev, word_length}
 use Rattle.machine.specs.Arguments.{lows, maybe, number_of, exit_number, chosen}
-use Rattle.machine.specs.Promises.{Pushed}
-use Rattle.machine.proofs.Pushes.{differ}
-use Rattle.machine.proofs.Texts.{encoded_length, word_is, shown_length, line_bytes, rest_is}
+use Rattle.store.specs.declared.Refusal.{Refusal}
+use Rattle.words.specs.Pushed.{Pushed}
+use Rattle.words.proofs.Pushes.{differ}
+use Rattle.words.proofs.Texts.{encoded_length, word_is, shown_length, line_bytes}
 use Rattle.machine.proofs.Commands.{low, byte_is}
 
 lows_length : (ws : List ℕ) → length (lows ws) ≡ length ws
@@ -68,6 +69,13 @@ pow_small (suc (suc (suc (suc (suc (suc (suc zero))))))) n h l = omega arith
 pow_small (suc (suc (suc (suc (suc (suc (suc (suc zero)))))))) n h l = omega arith
 pow_small (suc (suc (suc (suc (suc (suc (suc (suc (suc zero))))))))) n h l = omega arith
 pow_small (suc (suc (suc (suc (suc (suc (suc (suc (suc (suc i)))))))))) n h l = absurd (omega arith)
+
+-- tests of a length
+pub no_words : {n : ℕ} → eqb n 0 ≡ true → n ≡ 0
+no_words {n} e = grind arith
+
+pub some_words : {n : ℕ} → eqb n 0 ≡ false → n ≡ 0 → ⊥
+some_words {n} e = grind arith
 
 -- the first argument
 pub exit_is : (A : List ℕ) (s n : ℕ) → (length A ≡ 0 → ⊥) → n ≡ word_length (drop 1 A) → number_of (take n (drop 1 A)) ≡ exit_number A s
@@ -161,8 +169,8 @@ drop_take (suc i) n [] = let e : suc i + n ≡ suc (i + n) = omega arith in rw e
 drop_take (suc i) n (v ∷ V) = let e : suc i + n ≡ suc (i + n) = omega arith in rw e (drop_take i n V)
 
 -- the first argument, where there is one, and where there is none
-pub choice_some : {b : ℕ × List Bool} {t : ℕ} {m m' : List (List ℕ)} {r : Bool} (V U : List ℕ) (first n : ℕ) → U ≡ V → first < length V → n ≡ word_length (take (length U - (first + 1)) (drop (first + 1) U)) → Pushed b t m m' (rev (shown (drop (first + 1) (take (first + 1 + n) V)) ++ (10 ∷ []))) r → Pushed b t m m' (rev (chosen (drop first V) ++ (10 ∷ []))) r
-choice_some {b} {t} {m} {m'} {r} V U first n e l f h = subst (λ y. Pushed b t m m' (rev (y ++ (10 ∷ []))) r) (ap shown (drop_take (first + 1) n V) ∙ sym (ap chosen (drop_more V first 0 l) ∙ sym (ap (λ j. shown (take j (drop (first + 1) V))) (f ∙ ap word_length (rest_is U V (first + 1) e))))) h
+pub choice_some : {b : ℕ × List Bool} {t : ℕ} {m m' : List (List ℕ)} {r : Result (Unit {0}) Refusal} (V : List ℕ) (first n : ℕ) → first < length V → n ≡ word_length (drop (first + 1) V) → Pushed b t m m' (rev (shown (drop (first + 1) (take (first + 1 + n) V)) ++ (10 ∷ []))) r → Pushed b t m m' (rev (chosen (drop first V) ++ (10 ∷ []))) r
+choice_some {b} {t} {m} {m'} {r} V first n l f h = subst (λ y. Pushed b t m m' (rev (y ++ (10 ∷ []))) r) (ap shown (drop_take (first + 1) n V) ∙ sym (ap chosen (drop_more V first 0 l) ∙ sym (ap (λ j. shown (take j (drop (first + 1) V))) f))) h
 
-pub choice_none : {b : ℕ × List Bool} {t : ℕ} {m m' : List (List ℕ)} {r : Bool} (V : List ℕ) (first : ℕ) → length V ≤ first → Pushed b t m m' (10 ∷ 121 ∷ []) r → Pushed b t m m' (rev (chosen (drop first V) ++ (10 ∷ []))) r
+pub choice_none : {b : ℕ × List Bool} {t : ℕ} {m m' : List (List ℕ)} {r : Result (Unit {0}) Refusal} (V : List ℕ) (first : ℕ) → length V ≤ first → Pushed b t m m' (10 ∷ 121 ∷ []) r → Pushed b t m m' (rev (chosen (drop first V) ++ (10 ∷ []))) r
 choice_none V first l h = rw (drop_all first V l) h

@@ -6,14 +6,15 @@ use Rattle.machine.specs.declared.process.Builtin.{Builtin as Builtin'}
 use Rattle.machine.specs.declared.process.Builtin.TheVariants.{Done, Seq, Yes}
 use Rattle.machine.specs.declared.process.Control.TheVariants.{AtPrint, AtBuiltin, AtStatus}
 use Rattle.machine.specs.declared.process.Process.{Process as Process'}
-use Rattle.machine.specs.Encoding.{rev}
+use Rattle.words.specs.Encoding.{rev}
 use Rattle.machine.specs.Decide.{going}
 use Rattle.machine.specs.Represent.{Rest, abstract, ControlRep, r_print, r_builtin, r_status, r_done, r_seq, r_yes, Rep}
-use Rattle.machine.specs.Promises.{Scarce, After, Printed, Filled, Tight, tight_now, tight_then}
+use Rattle.words.specs.Pushed.{Scarce}
+use Rattle.machine.specs.Promises.{After, Printed, Filled, Tight, tight_now, tight_then}
 use Rattle.machine.proofs.Places.{now_text, kept_none, kept_set}
 use Rattle.segments.specs.Layout.{need}
 use Rattle.meaning.specs.Words.{decimal, as_line}
-use Rattle.machine.proofs.Texts.{rev_length}
+use Rattle.words.proofs.Texts.{rev_length}
 use Rattle.machine.proofs.Decimals.{bytes_decimal}
 
 pub print_none : {text code : List ℕ} {number : ℕ → ℕ} {live : List Bool} {m : List (List ℕ)} {p : Process'} {r : Rest} {c : Control} {k : List Frame} (v : Builtin') → p.control ≡ AtPrint v → length (get_or m (p.base + 2) []) ≡ 0 → Rep text code number live m p r c k → After text code number live m m p r c k (going p (AtBuiltin v))

@@ -7,10 +7,10 @@ use Rattle.meaning.specs.System.{QuotedByte, b_seq, Process, System}
 use Rattle.meaning.specs.Words.{number, bytes_of}
 use Rattle.meaning.specs.Step.{completes, start_builtin, start_seq}
 use Rattle.machine.specs.declared.arguments.Range.{Range}
-use Rattle.machine.specs.Encoding.{encoded, marked, plain, Small, AllSmall, word_length}
+use Rattle.words.specs.Encoding.{encoded, marked, plain, Small, AllSmall, word_length}
 use Rattle.machine.specs.Arguments.{maybe, number_of}
 use Rattle.machine.specs.Ranges.{seq_range}
-use Rattle.machine.proofs.Texts.{encoded_length, word_is, tail_is}
+use Rattle.words.proofs.Texts.{encoded_length, word_is, tail_is}
 use Rattle.machine.proofs.Numbers.{some_number, no_number, lows_encoded}
 
 pub range_empty : (A : List ℕ) (es : List (List QuotedByte)) → length A ≡ 0 → A ≡ marked es → None ≡ seq_range es

@@ -1,13 +1,14 @@
 -- Commands by their names.
-use Rattle.std.specs.Prelude.{ℕ, Bool, true, false, List, Some, None, Option as Maybe}
+use Rattle.std.specs.Prelude.{◌≡◌, ◌≢◌, ℕ, ◌+◌, Bool, true, false, List, [], length, drop, Some, None, Option as Maybe, slice_index_or}
 use Rattle.syntax.specs.Base.{pick, same, Name}
 use Rattle.meaning.specs.Step.{name_echo, name_cat, name_head, name_wc, name_grep, name_seq, name_rm, name_yes, name_true, name_false, name_test, name_read, name_exit, name_return, name_break, name_continue, name_shift, name_wait}
 use Rattle.machine.specs.declared.names.BuiltinName.{BuiltinName}
 use Rattle.machine.specs.declared.names.BuiltinName.TheVariants.{Echo, Cat, Head, Wc, Grep, Seq, Rm, Yes, True, False, Test, Read, Exit, Return, Break, Continue, Shift, Wait, Other}
 use Rattle.machine.specs.declared.process.Control.{Control as Control'}
-use Rattle.machine.specs.declared.process.Control.TheVariants.{AtStatus, AtUnwind}
+use Rattle.machine.specs.declared.process.Control.TheVariants.{AtInvoke, AtStatus, AtUnwind}
+use Rattle.machine.specs.declared.process.Process.{Process as Process'}
 use Rattle.machine.specs.declared.process.Unwind.TheVariants.{Break as Break', Continue as Continue'}
-use Rattle.machine.specs.Encoding.{named}
+use Rattle.words.specs.Encoding.{named, second}
 
 -- the name at the beginning of encoded words
 abbrev pub later_name : List ℕ → BuiltinName
@@ -102,3 +103,14 @@ at_once Continue = Some (AtUnwind Continue' 0)
 at_once Shift = None
 at_once Wait = None
 at_once Other = Some (AtStatus 127)
+
+-- those that begin in their own ways
+abbrev pub IsPlain : BuiltinName → Type 0
+IsPlain n = (n ≢ Echo) × (n ≢ Exit) × (n ≢ Yes) × (n ≢ Seq)
+
+-- the words are there, the first of them is this name, and the mark of the next is at `place`
+pub record Invoked (m : List (List ℕ)) (p : Process') (n : BuiltinName) (place : ℕ) : Type 0 where
+  pub control : p.control ≡ AtInvoke
+  pub some : length (slice_index_or m (p.base + 1) []) ≢ 0
+  pub name : name_of (drop 1 (slice_index_or m (p.base + 1) [])) ≡ n
+  pub next : place ≡ second (slice_index_or m (p.base + 1) [])

@@ -1,12 +1,13 @@
 -- Words and text, encoded.
-use Rattle.std.proofs.Common.{◌≡◌, ℕ, zero, suc, ◌+◌, ◌-◌, ◌*◌, ◌%◌, ◌<◌, ◌≤◌, min, Bool, true, false, not, ◌&&◌, ◌||◌, eqb, leb, List, [], ◌∷◌, ◌++◌, length, get_or, take, drop, sym, refl, ap, ◌∙◌, subst, ⊎_elim, arith}
+use Rattle.std.proofs.Common.{◌≡◌, ℕ, zero, suc, ◌+◌, ◌-◌, ◌*◌, ◌%◌, ◌<◌, ◌≤◌, min, Bool, true, false, not, ◌&&◌, ◌||◌, eqb, leb, List, [], ◌∷◌, ◌++◌, length, get_or, take, drop, Ok, Result, sym, refl, ap, ◌∙◌, subst, ⊎_elim, arith}
 use Rattle.std.proofs.lemmas.List.{append_assoc, append-nil, length-append, drop_more, take_more, drop_all, length-drop, get_or-set_other, drop_at, take_all, length-take, get_or-take}
 use Rattle.std.proofs.lemmas.Bool.{cases_lt}
 use Rattle.syntax.specs.Base.{pick}
-use Rattle.reader.specs.Layout.{flag}
+use Rattle.code.specs.Layout.{flag}
 use Rattle.meaning.specs.System.{QuotedByte, File}
 use Rattle.meaning.specs.Words.{bytes_of, quote_bytes, has_pattern, all_pathnames, join_words}
 use Rattle.words.specs.Encoding.{encoded, coded, marked, plain, Bytes, Small, AllSmall, patterned, any_pattern, shown, rev, word_length, second}
+use Rattle.store.specs.declared.Refusal.{Refusal}
 use Rattle.words.specs.Pushed.{Pushed}
 use Rattle.words.proofs.Pushes.{push_more, differ}
 
@@ -23,8 +24,8 @@ pub coded_is : (q : Bool) (bs : List ℕ) → coded (flag q) bs ≡ encoded (quo
 coded_is q [] = refl
 coded_is q (b ∷ bs) = ap (λ z. (b + 256 * flag q) ∷ z) (coded_is q bs)
 
-pub coded_next : {b : ℕ × List Bool} {i : ℕ} {m m₁ m₂ : List (List ℕ)} (q : ℕ) (bs : List ℕ) (k : ℕ) {r : Bool} → k < length bs → Pushed b i m m₁ (coded q (take k bs)) true → Pushed b i m₁ m₂ ((get_or bs k 0 + 256 * q) ∷ []) r → Pushed b i m m₂ (coded q (take (k + 1) bs)) r
-coded_next q bs k l e f = rw (take_more bs k 0 l, coded_append q (take k bs) (get_or bs k 0 ∷ [])) (push_more e refl f)
+pub coded_next : {b : ℕ × List Bool} {i : ℕ} {m m₁ m₂ : List (List ℕ)} (q : ℕ) (bs : List ℕ) (k : ℕ) {u : Unit {0}} {r : Result (Unit {0}) Refusal} → k < length bs → Pushed b i m m₁ (coded q (take k bs)) (Ok u) → Pushed b i m₁ m₂ ((get_or bs k 0 + 256 * q) ∷ []) r → Pushed b i m m₂ (coded q (take (k + 1) bs)) r
+coded_next q bs k l e f = rw (take_more bs k 0 l, coded_append q (take k bs) (get_or bs k 0 ∷ [])) (push_more e f)
 
 pub coded_short : (q : ℕ) (bs : List ℕ) (k : ℕ) → length (coded q (take k bs)) ≤ length (coded q bs)
 coded_short q bs k = omega (arith, coded_length q (take k bs), coded_length q bs, shorter k bs)
@@ -143,8 +144,8 @@ rev_push [] b = refl
 rev_push (x ∷ xs) b = ap (λ z. z ++ (x ∷ [])) (rev_push xs b)
 
 -- a list that another's pushes leave as it is
-pub left_alone : {b : ℕ × List Bool} {i j : ℕ} {m m₁ : List (List ℕ)} {y : List ℕ} {r : Bool} → j < i → Pushed b i m m₁ y r → r ≡ true → get_or m₁ j [] ≡ get_or m j []
-left_alone {i = i} {j = j} {m = m} {y = y} l p e = ap (λ z. get_or z j []) (p.yes e) ∙ get_or-set_other m i j (get_or m i [] ++ y) [] (omega arith)
+pub left_alone : {b : ℕ × List Bool} {i j : ℕ} {m m₁ : List (List ℕ)} {y : List ℕ} {u : Unit {0}} → j < i → Pushed b i m m₁ y (Ok u) → get_or m₁ j [] ≡ get_or m j []
+left_alone {i = i} {j = j} {m = m} {y = y} l p = ap (λ z. get_or z j []) p.ok ∙ get_or-set_other m i j (get_or m i [] ++ y) [] (omega arith)
 
 -- the part of a list from j up to n
 abbrev pub span : List ℕ → ℕ → ℕ → List ℕ
@@ -156,14 +157,14 @@ span_none V n = drop_all n (take n V) (omega (arith, length-take n V))
 pub span_length : (V : List ℕ) (i j n : ℕ) → i ≤ j → length (rev (shown (span V j n))) ≤ length (rev (shown (span V i n)))
 span_length V i j n h = omega (arith, rev_length (shown (span V j n)), shown_length (span V j n), length-drop j (take n V), rev_length (shown (span V i n)), shown_length (span V i n), length-drop i (take n V))
 
-pub back_on : {b : ℕ × List Bool} {f t : ℕ} {m m₁ m₂ : List (List ℕ)} (j n w v : ℕ) {r : Bool} → f < t → 0 < j → j ≤ n → n ≤ length (get_or m f []) → w ≡ get_or (get_or m₁ f []) (j - 1) 0 → v ≡ pick (leb 512 w) 32 (w % 256) → Pushed b t m m₁ (rev (shown (span (get_or m f []) j n))) true → Pushed b t m₁ m₂ (v ∷ []) r → Pushed b t m m₂ (rev (shown (span (get_or m f []) (j - 1) n))) r
+pub back_on : {b : ℕ × List Bool} {f t : ℕ} {m m₁ m₂ : List (List ℕ)} (j n w v : ℕ) {u : Unit {0}} {r : Result (Unit {0}) Refusal} → f < t → 0 < j → j ≤ n → n ≤ length (get_or m f []) → w ≡ get_or (get_or m₁ f []) (j - 1) 0 → v ≡ pick (leb 512 w) 32 (w % 256) → Pushed b t m m₁ (rev (shown (span (get_or m f []) j n))) (Ok u) → Pushed b t m₁ m₂ (v ∷ []) r → Pushed b t m m₂ (rev (shown (span (get_or m f []) (j - 1) n))) r
 back_on {f = f} {m = m} j n w v o z l k d e p q =
     let g : j - 1 + 1 ≡ j = omega arith in
-    let y : w ≡ get_or (take n (get_or m f [])) (j - 1) 0 = d ∙ ap (λ z. get_or z (j - 1) 0) (left_alone o p refl) ∙ sym (get_or-take n (get_or m f []) (j - 1) 0 (omega arith)) in
-    rw (drop_more (take n (get_or m f [])) (j - 1) 0 (omega (arith, length-take n (get_or m f []))), g, ← y, ← e) (push_more p refl q)
+    let y : w ≡ get_or (take n (get_or m f [])) (j - 1) 0 = d ∙ ap (λ z. get_or z (j - 1) 0) (left_alone o p) ∙ sym (get_or-take n (get_or m f []) (j - 1) 0 (omega arith)) in
+    rw (drop_more (take n (get_or m f [])) (j - 1) 0 (omega (arith, length-take n (get_or m f []))), g, ← y, ← e) (push_more p q)
 
-pub line_on : {b : ℕ × List Bool} {f t : ℕ} {m m₁ m₂ : List (List ℕ)} (i n : ℕ) {p r : Bool} → f < t → Pushed b t m m₁ (10 ∷ []) p → p ≡ true → Pushed b t m₁ m₂ (rev (shown (span (get_or m₁ f []) i n))) r → Pushed b t m m₂ (rev (shown (span (get_or m f []) i n) ++ (10 ∷ []))) r
-line_on {f = f} {m = m} i n o p e q = rw (rev_push (shown (span (get_or m f []) i n)) 10, ← left_alone o p e) (push_more p e q)
+pub line_on : {b : ℕ × List Bool} {f t : ℕ} {m m₁ m₂ : List (List ℕ)} (i n : ℕ) {u : Unit {0}} {r : Result (Unit {0}) Refusal} → f < t → Pushed b t m m₁ (10 ∷ []) (Ok u) → Pushed b t m₁ m₂ (rev (shown (span (get_or m₁ f []) i n))) r → Pushed b t m m₂ (rev (shown (span (get_or m f []) i n) ++ (10 ∷ []))) r
+line_on {f = f} {m = m} i n o p q = rw (rev_push (shown (span (get_or m f []) i n)) 10, ← left_alone o p) (push_more p q)
 
 pub line_length : (V : List ℕ) (i n : ℕ) → 1 ≤ length (rev (shown (span V i n) ++ (10 ∷ [])))
 line_length V i n = omega (arith, rev_length (shown (span V i n) ++ (10 ∷ [])), length-append (shown (span V i n)) (10 ∷ []))
