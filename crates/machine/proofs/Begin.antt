@@ -66,24 +66,24 @@ at_once_on : {text code : List ℕ} {number : ℕ → ℕ} {live : List Bool} {m
 at_once_on {p = p} {k = k} d c' h t l u now steps_to = record { c' = c'; k' = k; steps_to = steps_to; rep = record { lists = record { frames = h.lists.frames; words = []; text = []; line = [] }; has = cleared u t l h.has; control = now; frames = h.frames; status = h.status; functions = h.functions }; kept = rw u (kept_set (p.base + 1) [] (omega arith) (omega arith)); base = refl }
 
 once : (text code : List ℕ) (N : BuiltinName) (d : Control') → Some d ≡ at_once N → (c' : Control) × ((s : System) (w : Process) (as₁ : List (List ℕ)) → runs N s w as₁ ≡ goes_to s w c' w.frames) × ControlRep text code [] [] [] d c'
-once text code Echo d e = let z : ◌≡◌ {A = ℕ} 0 1 = cc in absurd (omega arith)
-once text code Cat d e = let z : ◌≡◌ {A = ℕ} 0 1 = cc in absurd (omega arith)
-once text code Head d e = let z : ◌≡◌ {A = ℕ} 0 1 = cc in absurd (omega arith)
-once text code Wc d e = let z : ◌≡◌ {A = ℕ} 0 1 = cc in absurd (omega arith)
-once text code Grep d e = let z : ◌≡◌ {A = ℕ} 0 1 = cc in absurd (omega arith)
-once text code Seq d e = let z : ◌≡◌ {A = ℕ} 0 1 = cc in absurd (omega arith)
-once text code Rm d e = let z : ◌≡◌ {A = ℕ} 0 1 = cc in absurd (omega arith)
-once text code Yes d e = let z : ◌≡◌ {A = ℕ} 0 1 = cc in absurd (omega arith)
+once text code Echo d e = absurd (cc)
+once text code Cat d e = absurd (cc)
+once text code Head d e = absurd (cc)
+once text code Wc d e = absurd (cc)
+once text code Grep d e = absurd (cc)
+once text code Seq d e = absurd (cc)
+once text code Rm d e = absurd (cc)
+once text code Yes d e = absurd (cc)
 once text code True d e = let q : d ≡ AtStatus 0 = cc in (at_status 0, λ s w as₁. refl, subst (λ d. ControlRep text code [] [] [] d (at_status 0)) (sym q) (r_status {n = 0} refl refl refl (omega arith)))
 once text code False d e = let q : d ≡ AtStatus 1 = cc in (at_status 1, λ s w as₁. refl, subst (λ d. ControlRep text code [] [] [] d (at_status 1)) (sym q) (r_status {n = 1} refl refl refl (omega arith)))
-once text code Test d e = let z : ◌≡◌ {A = ℕ} 0 1 = cc in absurd (omega arith)
-once text code Read d e = let z : ◌≡◌ {A = ℕ} 0 1 = cc in absurd (omega arith)
-once text code Exit d e = let z : ◌≡◌ {A = ℕ} 0 1 = cc in absurd (omega arith)
-once text code Return d e = let z : ◌≡◌ {A = ℕ} 0 1 = cc in absurd (omega arith)
+once text code Test d e = absurd (cc)
+once text code Read d e = absurd (cc)
+once text code Exit d e = absurd (cc)
+once text code Return d e = absurd (cc)
 once text code Break d e = let q : d ≡ AtUnwind Break' 0 = cc in (at_unwind break 0, λ s w as₁. refl, subst (λ d. ControlRep text code [] [] [] d (at_unwind break 0)) (sym q) (r_unwind {t = Break'} {n = 0} refl refl refl (omega arith)))
 once text code Continue d e = let q : d ≡ AtUnwind Continue' 0 = cc in (at_unwind continue 0, λ s w as₁. refl, subst (λ d. ControlRep text code [] [] [] d (at_unwind continue 0)) (sym q) (r_unwind {t = Continue'} {n = 0} refl refl refl (omega arith)))
-once text code Shift d e = let z : ◌≡◌ {A = ℕ} 0 1 = cc in absurd (omega arith)
-once text code Wait d e = let z : ◌≡◌ {A = ℕ} 0 1 = cc in absurd (omega arith)
+once text code Shift d e = absurd (cc)
+once text code Wait d e = absurd (cc)
 once text code Other d e = let q : d ≡ AtStatus 127 = cc in (at_status 127, λ s w as₁. refl, subst (λ d. ControlRep text code [] [] [] d (at_status 127)) (sym q) (r_status {n = 127} refl refl refl (omega arith)))
 
 pub once_on : {text code : List ℕ} {number : ℕ → ℕ} {live : List Bool} {m m' : List (List ℕ)} {p : Process'} {r : Rest} {c : Control} {k : List Frame} (N : BuiltinName) (d : Control') {first : ℕ} → Invoked m p N first → Some d ≡ at_once N → m' ≡ set m (p.base + 1) [] → Rep text code number live m p r c k → After text code number live m m' p r c k (going p d)
@@ -101,17 +101,17 @@ lacking Grep e f g d q = refl
 lacking Seq e f g d q = absurd (q refl)
 lacking Rm e f g d q = refl
 lacking Yes e f g d q = absurd (d refl)
-lacking True e f g d q = let z : ◌≡◌ {A = ℕ} 0 1 = cc in absurd (omega arith)
-lacking False e f g d q = let z : ◌≡◌ {A = ℕ} 0 1 = cc in absurd (omega arith)
+lacking True e f g d q = absurd (cc)
+lacking False e f g d q = absurd (cc)
 lacking Test e f g d q = refl
 lacking Read e f g d q = refl
 lacking Exit e f g d q = absurd (g refl)
 lacking Return e f g d q = refl
-lacking Break e f g d q = let z : ◌≡◌ {A = ℕ} 0 1 = cc in absurd (omega arith)
-lacking Continue e f g d q = let z : ◌≡◌ {A = ℕ} 0 1 = cc in absurd (omega arith)
+lacking Break e f g d q = absurd (cc)
+lacking Continue e f g d q = absurd (cc)
 lacking Shift e f g d q = refl
 lacking Wait e f g d q = refl
-lacking Other e f g d q = let z : ◌≡◌ {A = ℕ} 0 1 = cc in absurd (omega arith)
+lacking Other e f g d q = absurd (cc)
 
 pub once_beyond : {text code : List ℕ} {number : ℕ → ℕ} {live : List Bool} {m : List (List ℕ)} {p : Process'} {r : Rest} {c : Control} {k : List Frame} (N : BuiltinName) {first : ℕ} → Invoked m p N first → None ≡ at_once N → IsPlain N → Rep text code number live m p r c k → Beyond c
 once_beyond N v o q h = let b = begun v h in rw b.is (no_builtin N b.name (lacking N o q.0 q.1 q.2 q.3))

@@ -1,5 +1,6 @@
 -- Numbers as digits, the last first.
 use Rattle.std.proofs.Common.{◌≡◌, ℕ, zero, suc, ◌+◌, ◌/◌, ◌%◌, ◌<◌, ◌≤◌, Bool, true, false, ltb, List, [], ◌∷◌, ◌++◌, length, Ok, Err, Result, sym, refl, ap, ◌∙◌, subst, arith}
+use Rattle.std.proofs.lemmas.Bool.{ltb-false, le-ltb, lt-ltb}
 use Rattle.std.proofs.lemmas.List.{append_assoc, length-append}
 use Rattle.syntax.specs.Base.{pick}
 use Rattle.meaning.specs.Words.{digits, decimal, as_line}
@@ -8,15 +9,6 @@ use Rattle.store.specs.declared.Refusal.{Refusal}
 use Rattle.words.specs.Pushed.{Pushed}
 use Rattle.words.proofs.Pushes.{push_nil, push_more, push_fails}
 use Rattle.words.proofs.Texts.{rev_push, rev_length}
-
-small : (n : ℕ) → n < 10 → ltb n 10 ≡ true
-small n h = grind arith
-
-large : (n : ℕ) → 10 ≤ n → ltb n 10 ≡ false
-large n h = grind arith
-
-not_small : (n : ℕ) → ltb n 10 ≡ false → 10 ≤ n
-not_small n h = grind arith
 
 digits_more : (d n : ℕ) (ds : List ℕ) → digits d n ds ≡ digits d n [] ++ ds
 digits_more zero n ds = refl
@@ -39,13 +31,13 @@ digits_fuel (suc d) (suc e) n ds h l = by (ltb n 10) refl (λ p q. digits_fuel d
 
     by : (b : Bool) → ltb n 10 ≡ b → (n / 10 < d → n / 10 < e → digits d (n / 10) (c ∷ ds) ≡ digits e (n / 10) (c ∷ ds)) → pick b (c ∷ ds) (digits d (n / 10) (c ∷ ds)) ≡ pick b (c ∷ ds) (digits e (n / 10) (c ∷ ds))
     by true q f = refl
-    by false q f = let g = not_small n q in f (omega arith) (omega arith)
+    by false q f = let g = ltb-false n 10 q in f (omega arith) (omega arith)
 
 pub decimal_last : (n : ℕ) → 10 ≤ n → rev (decimal n) ≡ (48 + n % 10) ∷ rev (decimal (n / 10))
-decimal_last n h = rw (large n h) (ap rev (digits_more n (n / 10) ((48 + n % 10) ∷ []) ∙ ap (λ z. z ++ ((48 + n % 10) ∷ [])) (digits_fuel n (suc (n / 10)) (n / 10) [] (omega arith) (omega arith))) ∙ rev_push (decimal (n / 10)) (48 + n % 10))
+decimal_last n h = rw (le-ltb n 10 h) (ap rev (digits_more n (n / 10) ((48 + n % 10) ∷ []) ∙ ap (λ z. z ++ ((48 + n % 10) ∷ [])) (digits_fuel n (suc (n / 10)) (n / 10) [] (omega arith) (omega arith))) ∙ rev_push (decimal (n / 10)) (48 + n % 10))
 
 pub decimal_one : (n : ℕ) → n < 10 → rev (decimal n) ≡ (48 + n) ∷ []
-decimal_one n h = let e : n % 10 ≡ n = omega arith in rw (small n h, e)
+decimal_one n h = let e : n % 10 ≡ n = omega arith in rw (lt-ltb n 10 h, e)
 
 bytes_digits : (d n : ℕ) (ds : List ℕ) → Bytes ds → Bytes (digits d n ds)
 bytes_digits zero n ds h = h

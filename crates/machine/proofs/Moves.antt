@@ -1,5 +1,6 @@
 -- Steps as moves of a system.
 use Rattle.std.proofs.Common.{◌≡◌, ℕ, zero, suc, ◌+◌, ◌<◌, Bool, true, false, eqb, List, [], ◌∷◌, ◌++◌, take, drop, set, replicate, Ok, Err, Result, MatchResult, sym, refl, ap, ◌∙◌, subst, inl, arith}
+use Rattle.std.proofs.lemmas.Bool.{eq-eqb}
 use mathlib.Core.Option.{Option, some, none}
 use Rattle.std.specs.Result.{IsOkAnd}
 use Rattle.syntax.specs.Base.{pick, on_some, nth}
@@ -25,16 +26,13 @@ lifted (Err NoRoom) r e h = rw e (record { says = λ number r c k g. (h.says num
 lifted (Err PaperFull) r e h = rw e (record { says = λ number r c k g. absurd (h.says number r c k g) })
 lifted (Err Unsupported) r e h = rw e (record { says = λ number r c k g. (inl (h.says number r c k g), refl) })
 
-same_number : (a b : ℕ) → a ≡ b → eqb a b ≡ true
-same_number a b h = grind arith
-
 -- the process by its number
 found : (ws : List Process) (n : ℕ) (w v : Process) → find_process ws n ≡ some w → v.pid ≡ n → find_process (replace ws n v) n ≡ some v
-found [] n w v h e = let z : ◌≡◌ {A = ℕ} 0 1 = cc in absurd (omega arith)
+found [] n w v h e = absurd (cc)
 found (u ∷ ws) n w v h e = by (eqb u.pid n) refl h (λ g. found ws n w v g e)
   where
     by : (b : Bool) → eqb u.pid n ≡ b → pick b (some u) (find_process ws n) ≡ some w → (find_process ws n ≡ some w → find_process (replace ws n v) n ≡ some v) → find_process (pick b (v ∷ ws) (u ∷ replace ws n v)) n ≡ some v
-    by true q g f = rw (same_number v.pid n e)
+    by true q g f = rw (eq-eqb v.pid n e)
     by false q g f = rw q (f g)
 
 replaced : (ws : List Process) (n : ℕ) (v u : Process) → v.pid ≡ n → replace (replace ws n v) n u ≡ replace ws n u
@@ -42,7 +40,7 @@ replaced [] n v u e = refl
 replaced (w ∷ ws) n v u e = by (eqb w.pid n) refl (replaced ws n v u e)
   where
     by : (b : Bool) → eqb w.pid n ≡ b → replace (replace ws n v) n u ≡ replace ws n u → replace (pick b (v ∷ ws) (w ∷ replace ws n v)) n u ≡ pick b (u ∷ ws) (w ∷ replace ws n u)
-    by true q f = rw (same_number v.pid n e)
+    by true q f = rw (eq-eqb v.pid n e)
     by false q f = rw (q, f)
 
 itself : (ws : List Process) (n : ℕ) (w : Process) → find_process ws n ≡ some w → replace ws n w ≡ ws
@@ -58,7 +56,7 @@ moves_push s t u [] n e f = let g : s ≡ t = cc in rw (g, f)
 moves_push s t u (x ∷ ms) n e f = by (λ v g. moves_push v t u ms n g f) (move s x) refl e
   where
     by : ((v : System) → moves v ms ≡ some t → moves v (ms ++ (n ∷ [])) ≡ some u) → (o : Option System) → move s x ≡ o → on_some o (λ v. moves v ms) ≡ some t → on_some (move s x) (λ v. moves v (ms ++ (n ∷ []))) ≡ some u
-    by k none p g = let z : ◌≡◌ {A = ℕ} 0 1 = cc in absurd (omega arith)
+    by k none p g = absurd (cc)
     by k (some v) p g = rw p (k v g)
 
 replicate_more : (j n : ℕ) → replicate (j + 1) n ≡ replicate j n ++ (n ∷ [])

@@ -1,8 +1,8 @@
 -- A step over trees and frames, as a step of the process that is represented.
-use Rattle.std.proofs.Common.{◌≡◌, ℕ, zero, suc, ◌+◌, ◌-◌, ◌<◌, ◌≤◌, Bool, true, false, eqb, ltb, List, [], ◌∷◌, ◌++◌, length, get_or, set, Some, None, Option as Maybe, sym, refl, ap, ◌∙◌, subst, ⊎_elim, arith}
+use Rattle.std.proofs.Common.{◌≡◌, ℕ, zero, suc, ◌+◌, ◌-◌, ◌<◌, ◌≤◌, Bool, true, false, eqb, List, [], ◌∷◌, ◌++◌, length, get_or, set, Some, None, Option as Maybe, sym, refl, ap, ◌∙◌, subst, ⊎_elim, arith}
 use mathlib.Core.Option.{Option, some, none}
 use Rattle.std.proofs.lemmas.List.{append-nil, length-append, take_at, get_or-append-add, get_or-set_same, set-set}
-use Rattle.std.proofs.lemmas.Bool.{cases_lt}
+use Rattle.std.proofs.lemmas.Bool.{cases_lt, le-ltb, lt-ltb}
 use Rattle.segments.specs.Layout.{need}
 use Rattle.meaning.specs.System.{Control, at_status, at_unwind, Frame}
 use Rattle.machine.specs.declared.process.Unwind.{Unwind as Unwind'}
@@ -105,9 +105,6 @@ pub record Seen (text code : List ℕ) (number : ℕ → ℕ) (F : List ℕ) (f 
   pub ends : F ≡ rest ++ (x ∷ y ∷ t ∷ [])
   pub later : FramesRep text code number rest ks
 
-not_less : (n : ℕ) → 3 ≤ n → ltb n 3 ≡ false
-not_less n h = grind arith
-
 -- the frame that the last three words are
 top_at : (F G : List ℕ) (x y t : ℕ) → F ≡ G ++ (x ∷ y ∷ t ∷ []) → top_frame F ≡ frame_of x y t
 top_at F G x y t e =
@@ -116,13 +113,10 @@ top_at F G x y t e =
     let xs : get_or F (length F - 3) 0 ≡ x = ap (λ z. get_or z (length F - 3) 0) e ∙ ap (λ j. get_or (G ++ v) j 0) (omega arith) ∙ get_or-append-add G v 0 0 in
     let ys : get_or F (length F - 2) 0 ≡ y = ap (λ z. get_or z (length F - 2) 0) e ∙ ap (λ j. get_or (G ++ v) j 0) (omega arith) ∙ get_or-append-add G v 1 0 in
     let ts : get_or F (length F - 1) 0 ≡ t = ap (λ z. get_or z (length F - 1) 0) e ∙ ap (λ j. get_or (G ++ v) j 0) (omega arith) ∙ get_or-append-add G v 2 0 in
-    rw (not_less (length F) (omega arith), xs, ys, ts)
+    rw (le-ltb (length F) 3 (omega arith), xs, ys, ts)
 
 top_short : (F : List ℕ) → length F < 3 → top_frame F ≡ None
-top_short F h = rw (less (length F) h)
-  where
-    less : (n : ℕ) → n < 3 → ltb n 3 ≡ true
-    less n h = grind arith
+top_short F h = rw (lt-ltb (length F) 3 h)
 
 pub top_long : (F : List ℕ) (f : Frame') → Some f ≡ top_frame F → 3 ≤ length F
 top_long F f h = ⊎_elim
@@ -170,13 +164,13 @@ pub status_on : {text code : List ℕ} {number : ℕ → ℕ} {live : List Bool}
 status_on {text} {code} {number} {live} {m} {m'} {p} {r} {c} {k} n f q e t d st h =
     let i = status_is (rw e at h.control) in
     let u = seen text code number h.lists.frames f k (rw h.has.frames at t) h.frames in
-    back_on f (with_status p n) q h i.1 i.2 i.3 u (rw (d, i.0) (status_backs p n (eqb n 0) i.4 refl u.frame)) refl i.4 st
+    back_on f (with_status p n) q h i.1 i.2 i.3 u (rw (d, i.0) (status_backs {κ = u.κ} p n (eqb n 0) i.4 refl u.frame)) refl i.4 st
 
 pub unwind_on : {text code : List ℕ} {number : ℕ → ℕ} {live : List Bool} {m m' : List (List ℕ)} {p : Process'} {r : Rest} {c : Control} {k : List Frame} (v : Unwind') (n : ℕ) (f : Frame') (q : Resumed) → p.control ≡ AtUnwind v n → Some f ≡ top_frame (get_or m p.base []) → q ≡ unwind_next code p v f n → m' ≡ set m p.base (settled (get_or m p.base []) q.frame) → Rep text code number live m p r c k → After text code number live m m' p r c k q.process
 unwind_on {text} {code} {number} {live} {m} {m'} {p} {r} {c} {k} v n f q e t d st h =
     let i = unwind_was (rw e at h.control) in
     let u = seen text code number h.lists.frames f k (rw h.has.frames at t) h.frames in
-    back_on f p q h i.1 i.2 i.3 u (rw (d, i.0) (unwind_backs p n v i.4 u.frame)) refl h.status st
+    back_on f p q h i.1 i.2 i.3 u (rw (d, i.0) (unwind_backs {κ = u.κ} p n v i.4 u.frame)) refl h.status st
 
 pub status_ends : {text code : List ℕ} {number : ℕ → ℕ} {live : List Bool} {m : List (List ℕ)} {p : Process'} {r : Rest} {c : Control} {k : List Frame} (n : ℕ) → p.control ≡ AtStatus n → None ≡ top_frame (get_or m p.base []) → Rep text code number live m p r c k → Ends (abstract number p r c k) n
 status_ends {text} {code} {number} {k = k} n e t h = let i = status_is (rw e at h.control) in rw (i.0, unseen text code number h.lists.frames k (rw h.has.frames at t) h.frames) (λ s. refl)

@@ -10,55 +10,36 @@ use Rattle.machine.specs.declared.process.Process.{Process as Process'}
 use Rattle.machine.specs.declared.process.Unwind.TheVariants.{Break as Break', Continue as Continue'}
 use Rattle.words.specs.Encoding.{named, second}
 
--- the name at the beginning of encoded words
-abbrev pub later_name : List ℕ → BuiltinName
-later_name ws =
-    pick (named ws name_test) Test
-    (pick (named ws name_read) Read
-    (pick (named ws name_exit) Exit
-    (pick (named ws name_return) Return
-    (pick (named ws name_break) Break
-    (pick (named ws name_continue) Continue
-    (pick (named ws name_shift) Shift
-    (pick (named ws name_wait) Wait
-    Other)))))))
+-- the first name that passes a test
+abbrev pub name_by : (Name → Bool) → BuiltinName
+name_by is =
+    pick (is name_echo) Echo
+    (pick (is name_cat) Cat
+    (pick (is name_head) Head
+    (pick (is name_wc) Wc
+    (pick (is name_grep) Grep
+    (pick (is name_seq) Seq
+    (pick (is name_rm) Rm
+    (pick (is name_yes) Yes
+    (pick (is name_true) True
+    (pick (is name_false) False
+    (pick (is name_test) Test
+    (pick (is name_read) Read
+    (pick (is name_exit) Exit
+    (pick (is name_return) Return
+    (pick (is name_break) Break
+    (pick (is name_continue) Continue
+    (pick (is name_shift) Shift
+    (pick (is name_wait) Wait
+    Other)))))))))))))))))
 
+-- the name at the beginning of encoded words
 abbrev pub name_of : List ℕ → BuiltinName
-name_of ws =
-    pick (named ws name_echo) Echo
-    (pick (named ws name_cat) Cat
-    (pick (named ws name_head) Head
-    (pick (named ws name_wc) Wc
-    (pick (named ws name_grep) Grep
-    (pick (named ws name_seq) Seq
-    (pick (named ws name_rm) Rm
-    (pick (named ws name_yes) Yes
-    (pick (named ws name_true) True
-    (pick (named ws name_false) False
-    (later_name ws))))))))))
+name_of ws = name_by (named ws)
 
 -- the name that a word is
 abbrev pub name_at : Name → BuiltinName
-name_at x =
-    pick (same x name_echo) Echo
-    (pick (same x name_cat) Cat
-    (pick (same x name_head) Head
-    (pick (same x name_wc) Wc
-    (pick (same x name_grep) Grep
-    (pick (same x name_seq) Seq
-    (pick (same x name_rm) Rm
-    (pick (same x name_yes) Yes
-    (pick (same x name_true) True
-    (pick (same x name_false) False
-    (pick (same x name_test) Test
-    (pick (same x name_read) Read
-    (pick (same x name_exit) Exit
-    (pick (same x name_return) Return
-    (pick (same x name_break) Break
-    (pick (same x name_continue) Continue
-    (pick (same x name_shift) Shift
-    (pick (same x name_wait) Wait
-    Other)))))))))))))))))
+name_at x = name_by (same x)
 
 -- commands that the machine does not have
 abbrev pub lacks : BuiltinName → Bool

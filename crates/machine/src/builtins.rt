@@ -52,8 +52,8 @@ fn push_reversed(
     ensures same { bounds st.new ≡ bounds st.old }
     ensures says { Pushed (bounds st.old) to (model st.old) (model st.new) (rev (shown (drop low (take high (slice_index_or (model st.old) from []))))) result }
 {
-    for done in 0..high - low {
-        let w = st.get(from, high - done - 1);
+    for j in (low..high).rev() {
+        let w = st.get(from, j);
         extend(st, to, &[shown_byte(w)])?;
     }
     Ok(())

@@ -67,7 +67,7 @@ impl Process {
     ghost use Rattle.machine.specs.Decide.{going};
 
     /// The same process, with this to do next.
-    pub fn goes_to(self, control: Control) -> Self
+    pub(crate) fn goes_to(self, control: Control) -> Self
         ensures { result ≡ going self control }
     {
         Process { control, ..self }

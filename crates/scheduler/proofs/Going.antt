@@ -11,7 +11,6 @@ use Rattle.meaning.specs.System.{Control, at_list, Frame, Process, System, find_
 use Rattle.meaning.specs.Step.{continues, step, settle, move, moves, initial}
 use Rattle.meaning.specs.Space.{needs}
 use Rattle.machine.specs.declared.process.Process.{Process as Process'}
-use Rattle.machine.specs.declared.process.Control.TheVariants.{AtList}
 use Rattle.machine.specs.declared.stretch.Ending.{Ending}
 use Rattle.machine.specs.declared.stretch.Ending.TheVariants.{Spent as Spent', Exited as Exited'}
 use Rattle.machine.specs.declared.halt.Halt.{Halt}
@@ -29,7 +28,7 @@ use Rattle.scheduler.specs.Lists.{opened}
 use Rattle.words.specs.Paper.{OnPaper}
 use Rattle.scheduler.specs.Queue.{first, rotated}
 use Rattle.scheduler.proofs.Opening.{extent_opened}
-use Rattle.scheduler.specs.Outcomes.{OutcomeSays, Executed, first_rest, as_it_is, running, Going, Goes}
+use Rattle.scheduler.specs.Outcomes.{at_root, OutcomeSays, Executed, first_rest, as_it_is, running, Going, Goes}
 
 -- moves one after the other
 moves_then : (s t u : System) (a b : List ℕ) → moves s a ≡ some t → moves t b ≡ some u → moves s (a ++ b) ≡ some u
@@ -37,7 +36,7 @@ moves_then s t u [] b e f = let g : s ≡ t = cc in rw g f
 moves_then s t u (x ∷ a) b e f = by (λ v g. moves_then v t u a b g f) (move s x) refl e
   where
     by : ((v : System) → moves v a ≡ some t → moves v (a ++ b) ≡ some u) → (o : Option System) → move s x ≡ o → on_some o (λ v. moves v a) ≡ some t → on_some (move s x) (λ v. moves v (a ++ b)) ≡ some u
-    by k none p g = let z : ◌≡◌ {A = ℕ} 0 1 = cc in absurd (omega arith)
+    by k none p g = absurd (cc)
     by k (some v) p g = rw p (k v g)
 
 replicate_add : (j k n : ℕ) → replicate (j + k) n ≡ replicate j n ++ replicate k n
@@ -186,7 +185,7 @@ halted Unsupported most words e h f g = unsupported most words e h f g
 
 -- the queue is not empty
 pub never_still : {text code : List ℕ} {root : ℕ} {live : List Bool} {m : List (List ℕ)} {o₀ o : List ℕ} {place made : ℕ} {p : Process'} {r : Outcome} (most words : ℕ) → None ≡ first (get_or m 0 []) → Goes text code root live m o₀ o place made p → Executed text code root most words o₀ o r
-never_still most words e g = record { says = λ l i z. absurd (let q : None ≡ Some 0 = e ∙ ap first (g.says l i z).queue in let y : ◌≡◌ {A = ℕ} 0 1 = cc in omega arith) }
+never_still most words e g = record { says = λ l i z. absurd (let q : None ≡ Some 0 = e ∙ ap first (g.says l i z).queue in (cc)) }
 
 -- the beginning
 nothing : (n j : ℕ) → ◌≡◌ {A = List ℕ} (get_or (replicate n []) j []) []
@@ -194,7 +193,7 @@ nothing zero j = refl
 nothing (suc n) zero = refl
 nothing (suc n) (suc j) = nothing n j
 
-pub begins : (text code : List ℕ) (root half : ℕ) (m : List (List ℕ)) (o : List ℕ) → 5 ≤ half → m ≡ set (replicate half []) 0 (0 ∷ []) → Goes text code root (opened 5 half) m o o 0 0 (record { control = AtList root; status = 0; stdin = 0; stdout = 1; base = 1 })
+pub begins : (text code : List ℕ) (root half : ℕ) (m : List (List ℕ)) (o : List ℕ) → 5 ≤ half → m ≡ set (replicate half []) 0 (0 ∷ []) → Goes text code root (opened 5 half) m o o 0 0 (at_root root)
 begins text code root half m o h e = record { says = λ l i coded. record { c = at_list l; k = []; came = refl; rep = record { lists = record { frames = []; words = []; text = []; line = [] }; has = record { inside = omega (arith, ap length e, length-set {A = List ℕ} (replicate half []) 0 (0 ∷ []), length-replicate {A = List ℕ} half []); live0 = refl; live1 = refl; live2 = refl; live3 = refl; frames = empty 1 (omega arith); words = empty 2 (omega arith); text = empty 3 (omega arith); line = empty 4 (omega arith) }; control = r_list refl refl refl coded; frames = refl; status = omega arith; functions = refl }; base = refl; queue = ap (λ m. get_or m 0 []) e ∙ get_or-set_same {A = List ℕ} (replicate half []) 0 (0 ∷ []) [] (omega (arith, length-replicate {A = List ℕ} half [])); rest = λ j l. empty j (omega arith); long = refl; within = omega arith; behind = refl } }
   where
     empty : (j : ℕ) → 0 < j → get_or m j [] ≡ []

@@ -7,6 +7,7 @@ use Rattle.meaning.specs.System.{Control, Frame, Process, System, host_input, ho
 use Rattle.meaning.specs.Step.{any_enabled, moves, initial}
 use Rattle.meaning.specs.Space.{needs}
 use Rattle.machine.specs.declared.process.Process.{Process as Process'}
+use Rattle.machine.specs.declared.process.Control.TheVariants.{AtList}
 use Rattle.machine.specs.Represent.{Rest, abstract, Rep}
 use Rattle.machine.specs.Promises.{Beyond}
 use Rattle.scheduler.specs.declared.slices.Outcome.{Outcome}
@@ -34,6 +35,10 @@ OutcomeSays l i most words o o' n (Err Unsupported) = (ms : List ℕ) × (s : Sy
 -- for every list of commands that stands at the root of the code, and every input
 pub record Executed (text code : List ℕ) (root most words : ℕ) (o o' : List ℕ) (r : Outcome) : Type 0 where
   pub says : (l : CommandList) (i : List ℕ) → ListCode text code root l → OutcomeSays l i most words o o' r.printed r.end
+
+-- the first process at the beginning of the list of commands at the root: its output is the paper
+abbrev pub at_root : ℕ → Process'
+at_root root = record { control = AtList root; status = 0; stdin = 0; stdout = 1; base = 1 }
 
 -- the first process: number 0, with nothing of its own yet
 abbrev pub first_rest : Rest

@@ -2,7 +2,7 @@
 ghost use Rattle.std.specs.Prelude.{◌≡◌, ℕ, ◌+◌, ◌-◌, ◌*◌, ◌/◌, ◌<◌, ◌≤◌, List, [], ◌∷◌, ◌++◌, length, replicate, MatchResult};
 ghost use Rattle.store.specs.Held.{model, bounds};
 ghost use Rattle.scheduler.specs.Lists.{opened, Begun};
-ghost use Rattle.scheduler.specs.Outcomes.{Executed, Goes};
+ghost use Rattle.scheduler.specs.Outcomes.{Executed, Goes, at_root};
 
 use crate::lists::open_lists;
 use crate::queue::{QUEUE, first_ready, rotate};
@@ -39,7 +39,7 @@ pub const LISTS: usize = 5;
 
 /// The first process, at the beginning of a list of commands.
 pub fn first_process(root: u32) -> Process
-    ensures { result ≡ record { control = Control.AtList root; status = 0; stdin = 0; stdout = 1; base = 1 } }
+    ensures { result ≡ at_root root }
 {
     Process {
         control: Control::AtList(root),
@@ -56,15 +56,14 @@ fn run_slices(
     st: &mut Store,
     most: u64,
     paper: &mut [u8],
-    first: Process,
     root: u32,
     words: usize,
 ) -> Outcome
     requires numbers { bounds st.old ≡ (words / 2, opened 5 (words / 2)) }
-    requires goes { Goes code.text.now code.words.now root (opened 5 (words / 2)) (model st.old) paper.old paper.old 0 0 first }
+    requires goes { Goes code.text.now code.words.now root (opened 5 (words / 2)) (model st.old) paper.old paper.old 0 0 (at_root root) }
     ensures { Executed code.entry.text.now code.entry.words.now root most words paper.old paper.new result }
 {
-    let mut process = first;
+    let mut process = first_process(root);
     let mut printed = 0;
     let mut made = 0;
     while made < most {
@@ -122,7 +121,7 @@ pub fn execute(code: Code<'_>, root: u32, most: u64, paper: &mut [u8], words: &m
 {
     let all = words.len();
     match begin(words) {
-        Ok(mut st) => run_slices(code, &mut st, most, paper, first_process(root), root, all),
+        Ok(mut st) => run_slices(code, &mut st, most, paper, root, all),
         Err(_) => Outcome {
             printed: 0,
             end: Err(Halt::NoRoom),

@@ -1,7 +1,7 @@
 -- Words and text, encoded.
-use Rattle.std.proofs.Common.{◌≡◌, ℕ, zero, suc, ◌+◌, ◌-◌, ◌*◌, ◌%◌, ◌<◌, ◌≤◌, min, Bool, true, false, not, ◌&&◌, ◌||◌, eqb, leb, List, [], ◌∷◌, ◌++◌, length, get_or, take, drop, Ok, Result, sym, refl, ap, ◌∙◌, subst, ⊎_elim, arith}
+use Rattle.std.proofs.Common.{◌≡◌, ℕ, zero, suc, ◌+◌, ◌-◌, ◌*◌, ◌%◌, ◌<◌, ◌≤◌, min, Bool, true, false, not, ◌&&◌, ◌||◌, eqb, leb, List, [], ◌∷◌, ◌++◌, length, get_or, take, drop, Ok, Result, sym, refl, ap, ◌∙◌, ⊎_elim, arith}
 use Rattle.std.proofs.lemmas.List.{append_assoc, append-nil, length-append, drop_more, take_more, drop_all, length-drop, get_or-set_other, drop_at, take_all, length-take, get_or-take}
-use Rattle.std.proofs.lemmas.Bool.{cases_lt}
+use Rattle.std.proofs.lemmas.Bool.{cases_lt, lt-leb, ne_eqb}
 use Rattle.syntax.specs.Base.{pick}
 use Rattle.code.specs.Layout.{flag}
 use Rattle.meaning.specs.System.{QuotedByte, File}
@@ -35,30 +35,6 @@ coded_short q bs k = omega (arith, coded_length q (take k bs), coded_length q bs
     shorter (suc k) [] = omega arith
     shorter (suc k) (b ∷ bs) = omega (arith, shorter k bs)
 
--- patterns
-pub pattern_more : (ws : List ℕ) (k : ℕ) → k < length ws → patterned (drop k ws) ≡ ((eqb (get_or ws k 0) 42 || eqb (get_or ws k 0) 63) || patterned (drop (k + 1) ws))
-pattern_more ws k l = ap patterned (drop_more ws k 0 l)
-
-pub eqb_yes : (a b : ℕ) → a ≡ b → eqb a b ≡ true
-eqb_yes a b h = grind arith
-
-pub eqb_not : (a b : ℕ) → (a ≡ b → ⊥) → eqb a b ≡ false
-eqb_not a b h = grind arith
-
-or_true : (a : Bool) → (a || true) ≡ true
-or_true true = refl
-or_true false = refl
-
--- what was found at k
-pub pattern_here : (ws : List ℕ) (k v : ℕ) → k < length ws → patterned (drop k ws) ≡ patterned ws → get_or ws k 0 ≡ v → (eqb v 42 || eqb v 63) ≡ true → true ≡ patterned ws
-pattern_here ws k v l i e h = sym (sym i ∙ pattern_more ws k l ∙ rw (e, h))
-
-pub pattern_on : (ws : List ℕ) (k : ℕ) → k < length ws → patterned (drop k ws) ≡ patterned ws → (get_or ws k 0 ≡ 42 → ⊥) → (get_or ws k 0 ≡ 63 → ⊥) → patterned (drop (k + 1) ws) ≡ patterned ws
-pattern_on ws k l i e f = sym (pattern_more ws k l ∙ rw (eqb_not (get_or ws k 0) 42 e, eqb_not (get_or ws k 0) 63 f)) ∙ i
-
-pub pattern_none : (ws : List ℕ) (k : ℕ) → length ws ≤ k → patterned (drop k ws) ≡ patterned ws → false ≡ patterned ws
-pattern_none ws k l i = sym (sym i ∙ ap patterned (drop_all k ws l))
-
 or_assoc : (a b d : Bool) → ((a || b) || d) ≡ (a || (b || d))
 or_assoc true b d = refl
 or_assoc false b d = refl
@@ -67,7 +43,7 @@ one_pattern : (c : QuotedByte) → (eqb (c.byte + 256 * flag c.quoted) 42 || eqb
 one_pattern c = by c.byte c.quoted
   where
     by : (b : ℕ) (q : Bool) → (eqb (b + 256 * flag q) 42 || eqb (b + 256 * flag q) 63) ≡ (not q && (eqb b 42 || eqb b 63))
-    by b true = rw (eqb_not (b + 256 * 1) 42 (λ e. omega arith), eqb_not (b + 256 * 1) 63 (λ e. omega arith))
+    by b true = rw (ne_eqb (b + 256 * 1) 42 (λ e. omega arith), ne_eqb (b + 256 * 1) 63 (λ e. omega arith))
     by b false = let e : b + 256 * 0 ≡ b = omega arith in rw e
 
 pattern_append : (d : List QuotedByte) (r : List ℕ) → patterned (encoded d ++ r) ≡ (has_pattern d || patterned r)
@@ -91,19 +67,6 @@ all_plain fs (d ∷ ds) e = let h = neither (has_pattern d) (any_pattern ds) e i
 pub all_bytes : (s : List ℕ) → ((i : ℕ) → get_or s i 0 < 256) → Bytes s
 all_bytes [] h = tt
 all_bytes (b ∷ s) h = (h 0, all_bytes s (λ i. h (suc i)))
-
-bytes_drop : (n : ℕ) (s : List ℕ) → Bytes s → Bytes (drop n s)
-bytes_drop zero s h = h
-bytes_drop (suc n) [] h = tt
-bytes_drop (suc n) (b ∷ s) h = bytes_drop n s h.1
-
-bytes_take : (n : ℕ) (s : List ℕ) → Bytes s → Bytes (take n s)
-bytes_take zero s h = tt
-bytes_take (suc n) [] h = tt
-bytes_take (suc n) (b ∷ s) h = (h.0, bytes_take n s h.1)
-
-pub bytes_part : (n a : ℕ) (text s : List ℕ) → Bytes text → take n (drop a text) ≡ s → Bytes s
-bytes_part n a text s h e = subst Bytes e (bytes_take n (drop a text) (bytes_drop a text h))
 
 pub small_quoted : (q : Bool) (s : List ℕ) → Bytes s → Small (quote_bytes q s)
 small_quoted q [] h = tt
@@ -169,27 +132,11 @@ line_on {f = f} {m = m} i n o p q = rw (rev_push (shown (span (get_or m f []) i 
 pub line_length : (V : List ℕ) (i n : ℕ) → 1 ≤ length (rev (shown (span V i n) ++ (10 ∷ [])))
 line_length V i n = omega (arith, rev_length (shown (span V i n) ++ (10 ∷ [])), length-append (shown (span V i n)) (10 ∷ []))
 
--- the length of a word
-leb_yes : (w : ℕ) → 512 ≤ w → leb 512 w ≡ true
-leb_yes w h = grind arith
+pub low : (b : ℕ) (q : Bool) → b < 256 → leb 512 (b + 256 * flag q) ≡ false
+low b true h = lt-leb 512 (b + 256 * 1) (omega arith)
+low b false h = lt-leb 512 (b + 256 * 0) (omega arith)
 
-leb_not : (w : ℕ) → w < 512 → leb 512 w ≡ false
-leb_not w h = grind arith
-
-pub word_here : (ws : List ℕ) (i : ℕ) → i < length ws → 512 ≤ get_or ws i 0 → word_length ws ≡ i + word_length (drop i ws) → i ≡ word_length ws
-word_here ws i l h e = sym (e ∙ ap (λ z. i + word_length z) (drop_more ws i 0 l) ∙ rw (leb_yes (get_or ws i 0) h) (omega arith))
-
-pub word_on : (ws : List ℕ) (i : ℕ) → i < length ws → get_or ws i 0 < 512 → word_length ws ≡ i + word_length (drop i ws) → word_length ws ≡ i + 1 + word_length (drop (i + 1) ws)
-word_on ws i l h e = e ∙ ap (λ z. i + word_length z) (drop_more ws i 0 l) ∙ rw (leb_not (get_or ws i 0) h) (omega arith)
-
-pub word_ends : (ws : List ℕ) (i : ℕ) → length ws ≡ i → word_length ws ≡ i + word_length (drop i ws) → length ws ≡ word_length ws
-word_ends ws i l e = l ∙ sym (e ∙ ap (λ z. i + word_length z) (drop_all i ws (omega arith)) ∙ omega arith)
-
-low : (b : ℕ) (q : Bool) → b < 256 → leb 512 (b + 256 * flag q) ≡ false
-low b true h = leb_not (b + 256 * 1) (omega arith)
-low b false h = leb_not (b + 256 * 0) (omega arith)
-
-byte_is : (b : ℕ) (q : Bool) → b < 256 → (b + 256 * flag q) % 256 ≡ b
+pub byte_is : (b : ℕ) (q : Bool) → b < 256 → (b + 256 * flag q) % 256 ≡ b
 byte_is b true h = omega arith
 byte_is b false h = omega arith
 

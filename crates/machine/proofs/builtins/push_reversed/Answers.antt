@@ -1,21 +1,23 @@
-use Rattle.std.proofs.Common.{◌≡◌, ◌-◌, ◌+◌, [], get_or, refl, ◌∙◌, arith}
+use Rattle.std.proofs.Common.{◌≡◌, ◌-◌, [], get_or, refl, ◌∙◌, arith}
 use Rattle.std.proofs.lemmas.Result.{err_from_is_err_and}
 use Rattle.store.specs.Held.{model}
 use Rattle.words.proofs.Pushes.{push_nil, push_fails}
 use Rattle.words.proofs.Texts.{span_none, span_length, back_on}
 use Rattle.machine.proofs.builtins.push_reversed.Goals as goal
 
-pub loop-done-init : goal.loop-done-init
-loop-done-init c = let e : c.args.high - 0 ≡ c.args.high = omega arith in record { same = refl; pushed = rw (e, span_none (get_or (model c.args.st.now) c.args.from []) c.args.high) push_nil }
+pub loop-j-init : goal.loop-j-init
+loop-j-init c = record { above = omega arith; same = refl; pushed = rw (span_none (get_or (model c.args.st.now) c.args.from []) c.args.high) push_nil }
 
 pub returns-in_err-extend-clause-says : goal.returns-in_err-extend-clause-says
 returns-in_err-extend-clause-says c =
-    let i = c.loop-done.invariant in
+    let i = c.loop-j.invariant in
     let p = err_from_is_err_and c.from_residual.result c.from_residual.ensures.1 in
-    rw p.1 (push_fails _ (back_on (c.args.high - c.loop-done.done) c.args.high c.get-w.result c.shown_byte.result c.requires.lists (omega arith) (omega arith) c.requires.in_bounds c.get-w.ensures c.shown_byte.ensures i.pushed (rw i.same at c.in_err-extend.ensures.says)) (span_length (get_or (model c.args.st.now) c.args.from []) c.args.low (c.args.high - c.loop-done.done - 1) c.args.high (omega arith)))
+    rw p.1 (push_fails _ (back_on c.loop-j.j c.args.high c.get-w.result c.shown_byte.result c.requires.lists (omega arith) (omega arith) c.requires.in_bounds c.get-w.ensures c.shown_byte.ensures i.pushed (rw i.same at c.in_err-extend.ensures.says)) (span_length (get_or (model c.args.st.now) c.args.from []) c.args.low (c.loop-j.j - 1) c.args.high (omega arith)))
 
-pub loop-done-preserved : goal.loop-done-preserved
-loop-done-preserved c =
-    let i = c.loop-done.invariant in
-    let e : c.args.high - c.loop-done.done - 1 ≡ c.args.high - (c.loop-done.done + 1) = omega arith in
-    record { same = c.extend.ensures.same ∙ i.same; pushed = rw e at (back_on (c.args.high - c.loop-done.done) c.args.high c.get-w.result c.shown_byte.result c.requires.lists (omega arith) (omega arith) c.requires.in_bounds c.get-w.ensures c.shown_byte.ensures i.pushed (rw i.same at c.in_ok-extend.ensures.says)) }
+pub loop-j-preserved : goal.loop-j-preserved
+loop-j-preserved c =
+    let i = c.loop-j.invariant in
+    record { above = omega arith; same = c.extend.ensures.same ∙ i.same; pushed = back_on c.loop-j.j c.args.high c.get-w.result c.shown_byte.result c.requires.lists (omega arith) (omega arith) c.requires.in_bounds c.get-w.ensures c.shown_byte.ensures i.pushed (rw i.same at c.in_ok-extend.ensures.says) }
+
+pub returns-clause-says : goal.returns-clause-says
+returns-clause-says c = let e : c.loop-j.j ≡ c.args.low = omega (arith, c.loop-j.invariant.above) in rw e at c.loop-j.invariant.pushed
