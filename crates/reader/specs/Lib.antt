@@ -1,6 +1,6 @@
 -- Reading: from a text to code.
-pub mod Layout
-pub mod Code
+pub use Rattle.code.specs.Layout
+pub use Rattle.code.specs.Code
 pub mod Reading
 pub mod Aheads
 pub mod Answer
