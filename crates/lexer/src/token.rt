@@ -1,6 +1,10 @@
 //! What a token is, and the number that stands for it where tokens are kept as words.
-ghost use Rattle.std.specs.Prelude.{◌≡◌, ℕ, ◌+◌, ◌<◌, ◌≤◌, ◌≢◌, Some, None, MatchOption};
-ghost use Rattle.lexer.specs.Codes.{Decodes, code_of, has_bytes, is_joined, keyword_name, part_code, part_of, sign_code_of, sign_name};
+ghost use Rattle.std.specs.Prelude.{◌≡◌, ℕ, ◌+◌, ◌<◌, ◌≤◌, ◌≢◌, Some, None, MatchOption, find};
+ghost use Rattle.syntax.specs.Base.{same};
+ghost use Rattle.lexer.specs.Stored.{bare_code};
+ghost use Rattle.lexer.specs.Codes.{all_keywords, bracket_of, Decodes, code_of, has_bytes, is_joined, keyword_name, part_code, part_of, sign_code_of, sign_name};
+
+use crate::bytes::{find, is_name};
 
 /// A word that has a meaning of its own.
 #[derive(Clone, Copy, Debug, PartialEq, Eq)]
@@ -111,6 +115,22 @@ impl Keyword {
         Keyword::Not,
     ];
 
+    /// The keyword that a word is.
+    pub(crate) fn from_spelling(word: &[u8]) -> Option<Keyword>
+        ensures { result ≡ find (λ k. same word.now (keyword_name k)) all_keywords }
+    {
+        Keyword::ALL
+            .iter()
+            .copied()
+            .find(|&keyword| keyword.is_spelled(word))
+    }
+
+    fn is_spelled(self, word: &[u8]) -> bool
+        ensures { result ≡ same word.now (keyword_name self) }
+    {
+        word == self.spelling()
+    }
+
     pub fn spelling(self) -> &'static [u8]
         ensures { result.now ≡ keyword_name self }
     {
@@ -191,33 +211,42 @@ impl Sign {
 }
 
 impl PartTag {
+    /// Bytes outside of quotes.
     pub const LITERAL: PartTag = PartTag {
         kind: PartKind::Literal,
         quoted: false,
     };
 
-    fn code(self) -> u32
-        ensures { result ≡ part_code self }
-    {
-        let unquoted = match self.kind {
-            PartKind::Literal => 0,
-            PartKind::Parameter => 2,
-            PartKind::Substitution => 5,
-        };
-        unquoted + u32::from(self.quoted)
-    }
+    /// Bytes in quotes.
+    pub const QUOTED: PartTag = PartTag {
+        kind: PartKind::Literal,
+        quoted: true,
+    };
+}
 
-    fn from_code(code: u32) -> Option<PartTag>
-        ensures { MatchOption result ((part : _) → part_code part ≢ code) (λ part. part_code part ≡ code) }
-    {
-        let (kind, quoted) = match code {
-            0 | 1 => (PartKind::Literal, code == 1),
-            2 | 3 => (PartKind::Parameter, code == 3),
-            5 | 6 => (PartKind::Substitution, code == 6),
-            _ => return None,
-        };
-        Some(PartTag { kind, quoted })
-    }
+/// The code of a part that is not joined to the token before it.
+fn part_code(part: PartTag) -> u32
+    ensures { result ≡ part_code part }
+{
+    let unquoted = match part.kind {
+        PartKind::Literal => 0,
+        PartKind::Parameter => 2,
+        PartKind::Substitution => 5,
+    };
+    unquoted + u32::from(part.quoted)
+}
+
+/// The part with a code.
+fn part_with(code: u32) -> Option<PartTag>
+    ensures { MatchOption result ((part : _) → part_code part ≢ code) (λ part. part_code part ≡ code) }
+{
+    let (kind, quoted) = match code {
+        0 | 1 => (PartKind::Literal, code == 1),
+        2 | 3 => (PartKind::Parameter, code == 3),
+        5 | 6 => (PartKind::Substitution, code == 6),
+        _ => return None,
+    };
+    Some(PartTag { kind, quoted })
 }
 
 impl Token {
@@ -240,7 +269,43 @@ impl Token {
     }
 }
 
+/// What a bare word is to which nothing is joined before it.
+pub fn bare_token(word: &[u8]) -> Token
+    ensures code { code_of result ≡ bare_code word.now }
+    ensures no_bracket { bracket_of result ≡ None }
+{
+    if let Some(keyword) = Keyword::from_spelling(word) {
+        return Token::Keyword(keyword);
+    }
+    match find(word, b'=') {
+        Some(len) if is_name(&word[..len]) => Token::Assignment { name: len as u8 },
+        _ if is_name(word) => Token::Name,
+        _ => Token::Part {
+            part: PartTag::LITERAL,
+            joined: false,
+        },
+    }
+}
+
+/// Whether a token opens a bracket or closes one.
+#[derive(Clone, Copy, Debug, PartialEq, Eq)]
+pub enum Bracket {
+    Opens,
+    Closes,
+}
+
 impl Token {
+    pub(crate) fn bracket(self) -> Option<Bracket>
+        ensures { result ≡ bracket_of self }
+    {
+        match self {
+            Token::Part { part, .. } if part.kind == PartKind::Substitution => Some(Bracket::Opens),
+            Token::Sign(Sign::OpenParen) => Some(Bracket::Opens),
+            Token::Sign(Sign::CloseParen) => Some(Bracket::Closes),
+            _ => None,
+        }
+    }
+
     /// Whether its bytes stand in the text as they are: a sign and a bracket are known by their kind.
     pub(crate) fn has_bytes(self) -> bool
         ensures { result ≡ has_bytes self }
@@ -257,7 +322,7 @@ impl From<Token> for u32 {
 
     fn from(token: Token) -> u32 {
         match token {
-            Token::Part { part, joined } => part.code() + if joined { JOINED } else { 0 },
+            Token::Part { part, joined } => part_code(part) + if joined { JOINED } else { 0 },
             Token::Keyword(keyword) => keyword as u32,
             Token::Name => NAME,
             Token::Assignment { name } => ASSIGNMENT + u32::from(name),
@@ -276,7 +341,7 @@ impl TryFrom<u32> for Token {
         match code {
             0..=15 => {
                 let joined = code >= JOINED;
-                match PartTag::from_code(code % JOINED) {
+                match part_with(code % JOINED) {
                     Some(part) => Ok(Token::Part { part, joined }),
                     None => Err(UnknownCode(code)),
                 }
