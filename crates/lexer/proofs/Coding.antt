@@ -14,7 +14,7 @@ use Rattle.syntax.specs.Base.{pick, Name, letter, digit, valid_name}
 use Rattle.grammar.specs.Grammar.{split_equals, Split, reserved}
 use Rattle.lexer.specs.Codes.{keyword_code, sign_code_of, part_code, code_of, next_code, Fits, Decodes}
 use Rattle.lexer.specs.Stored.{index_of, sign_names, sign_code, keyword_index, bare_code, assignment_code, token_code, code_at, tokens_of, tokens_from}
-use Rattle.lexer.specs.declared.token.UnknownCode.{UnknownCode}
+use Rattle.lexer.specs.declared.codes.UnknownCode.{UnknownCode}
 use Rattle.lexer.proofs.WithBytes.{index_le}
 use Rattle.lexer.proofs.Runs.{name_short}
 use Rattle.std.specs.declared.result.Result.{Result}

@@ -4,7 +4,7 @@ use Rattle.std.specs.Result.{result_ok}
 use Rattle.std.specs.declared.result.Result.{Result}
 use Rattle.grammar.specs.Tokens.{Token, token}
 use Rattle.lexer.specs.declared.token.Token.{Token as Value}
-use Rattle.lexer.specs.declared.token.UnknownCode.{UnknownCode}
+use Rattle.lexer.specs.declared.codes.UnknownCode.{UnknownCode}
 use Rattle.lexer.specs.Codes.{code_of, next_code, has_bytes, Decodes}
 use Rattle.lexer.specs.Stored.{token_code, code_at, tokens_of, tokens_from, Has}
 use Rattle.lexer.proofs.Coding.{here_coded, decoded}

@@ -18,7 +18,7 @@ use Rattle.lexer.specs.declared.token.Token.{Token}
 use Rattle.lexer.specs.declared.token.Token.TheVariants.{Part as part, Keyword as keyword, Name as name, Assignment as assignment, Sign as sign, Unclosed as unclosed}
 use Rattle.lexer.specs.declared.token.Bracket.{Bracket}
 use Rattle.lexer.specs.declared.token.Bracket.TheVariants.{Opens, Closes}
-use Rattle.lexer.specs.declared.token.UnknownCode.{UnknownCode}
+use Rattle.lexer.specs.declared.codes.UnknownCode.{UnknownCode}
 
 abbrev pub keyword_code : Keyword → ℕ
 keyword_code When = 16

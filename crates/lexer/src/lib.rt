@@ -4,11 +4,13 @@
 ghost use Rattle.std.specs.Prelude.{◌≡◌, ℕ, ◌+◌, ◌*◌, ◌<◌, ◌≤◌, length};
 ghost use Rattle.lexer.specs.Stored.{Has, code_at, tokens_from};
 
-pub use crate::token::{Keyword, PartKind, PartTag, RedirectTag, Sign, Token, UnknownCode};
+pub use crate::codes::UnknownCode;
+pub use crate::token::{Keyword, PartKind, PartTag, RedirectTag, Sign, Token};
 pub use crate::tokens::{Span, Tokens, tokenize};
 pub use crate::write::write_tokens;
 
 mod bytes;
+mod codes;
 mod cut;
 mod token;
 mod tokens;

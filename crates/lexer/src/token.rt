@@ -1,8 +1,8 @@
-//! What a token is, and the number that stands for it where tokens are kept as words.
-ghost use Rattle.std.specs.Prelude.{◌≡◌, ℕ, ◌+◌, ◌<◌, ◌≤◌, ◌≢◌, Some, None, MatchOption, find};
+//! What a token is.
+ghost use Rattle.std.specs.Prelude.{◌≡◌, None, find};
 ghost use Rattle.syntax.specs.Base.{same};
 ghost use Rattle.lexer.specs.Stored.{bare_code};
-ghost use Rattle.lexer.specs.Codes.{all_keywords, bracket_of, Decodes, code_of, has_bytes, is_joined, keyword_name, part_code, part_of, sign_code_of, sign_name};
+ghost use Rattle.lexer.specs.Codes.{all_keywords, bracket_of, code_of, has_bytes, is_joined, keyword_name, part_of, sign_name};
 
 use crate::bytes::{find, is_name};
 
@@ -80,20 +80,12 @@ pub enum Token {
     Unclosed,
 }
 
-/// A number that stands for no token.
+/// What a token does to the brackets around it.
 #[derive(Clone, Copy, Debug, PartialEq, Eq)]
-pub struct UnknownCode(pub u32);
-
-/// The code of a quote that is not closed.
-const UNCLOSED: u32 = 45;
-
-const NAME: u32 = 46;
-
-/// The code of an assignment whose name is empty.
-const ASSIGNMENT: u32 = 64;
-
-/// Added to a part's code where it is joined to the token before it.
-const JOINED: u32 = 8;
+pub enum Bracket {
+    Opens,
+    Closes,
+}
 
 impl Keyword {
     pub const ALL: [Keyword; 16] = [
@@ -191,23 +183,6 @@ impl Sign {
             Sign::DoubleSemicolon => b";;",
         }
     }
-
-    fn code(self) -> u32
-        ensures { result ≡ sign_code_of self }
-    {
-        match self {
-            Sign::Semicolon => 32,
-            Sign::Newline => 33,
-            Sign::Ampersand => 34,
-            Sign::Pipe => 35,
-            Sign::Redirect(tag) => 36 + tag as u32,
-            Sign::OpenParen => 40,
-            Sign::CloseParen => 41,
-            Sign::And => 42,
-            Sign::Or => 43,
-            Sign::DoubleSemicolon => 44,
-        }
-    }
 }
 
 impl PartTag {
@@ -222,31 +197,6 @@ impl PartTag {
         kind: PartKind::Literal,
         quoted: true,
     };
-}
-
-/// The code of a part that is not joined to the token before it.
-fn part_code(part: PartTag) -> u32
-    ensures { result ≡ part_code part }
-{
-    let unquoted = match part.kind {
-        PartKind::Literal => 0,
-        PartKind::Parameter => 2,
-        PartKind::Substitution => 5,
-    };
-    unquoted + u32::from(part.quoted)
-}
-
-/// The part with a code.
-fn part_with(code: u32) -> Option<PartTag>
-    ensures { MatchOption result ((part : _) → part_code part ≢ code) (λ part. part_code part ≡ code) }
-{
-    let (kind, quoted) = match code {
-        0 | 1 => (PartKind::Literal, code == 1),
-        2 | 3 => (PartKind::Parameter, code == 3),
-        5 | 6 => (PartKind::Substitution, code == 6),
-        _ => return None,
-    };
-    Some(PartTag { kind, quoted })
 }
 
 impl Token {
@@ -267,6 +217,26 @@ impl Token {
     {
         matches!(self, Token::Part { joined: true, .. })
     }
+
+    /// Whether it opens a bracket or closes one.
+    pub(crate) fn bracket(self) -> Option<Bracket>
+        ensures { result ≡ bracket_of self }
+    {
+        match self {
+            Token::Part { part, .. } if part.kind == PartKind::Substitution => Some(Bracket::Opens),
+            Token::Sign(Sign::OpenParen) => Some(Bracket::Opens),
+            Token::Sign(Sign::CloseParen) => Some(Bracket::Closes),
+            _ => None,
+        }
+    }
+
+    /// Whether its bytes stand in the text as they are: a sign and a bracket are known by their kind.
+    pub(crate) fn has_bytes(self) -> bool
+        ensures { result ≡ has_bytes self }
+    {
+        self.part()
+            .is_some_and(|part| part.kind != PartKind::Substitution)
+    }
 }
 
 /// What a bare word is to which nothing is joined before it.
@@ -284,76 +254,5 @@ pub fn bare_token(word: &[u8]) -> Token
             part: PartTag::LITERAL,
             joined: false,
         },
-    }
-}
-
-/// Whether a token opens a bracket or closes one.
-#[derive(Clone, Copy, Debug, PartialEq, Eq)]
-pub enum Bracket {
-    Opens,
-    Closes,
-}
-
-impl Token {
-    pub(crate) fn bracket(self) -> Option<Bracket>
-        ensures { result ≡ bracket_of self }
-    {
-        match self {
-            Token::Part { part, .. } if part.kind == PartKind::Substitution => Some(Bracket::Opens),
-            Token::Sign(Sign::OpenParen) => Some(Bracket::Opens),
-            Token::Sign(Sign::CloseParen) => Some(Bracket::Closes),
-            _ => None,
-        }
-    }
-
-    /// Whether its bytes stand in the text as they are: a sign and a bracket are known by their kind.
-    pub(crate) fn has_bytes(self) -> bool
-        ensures { result ≡ has_bytes self }
-    {
-        match self.part() {
-            Some(part) => part.kind != PartKind::Substitution,
-            None => false,
-        }
-    }
-}
-
-impl From<Token> for u32 {
-    ghost from_gives = { λ token code. code ≡ code_of token };
-
-    fn from(token: Token) -> u32 {
-        match token {
-            Token::Part { part, joined } => part_code(part) + if joined { JOINED } else { 0 },
-            Token::Keyword(keyword) => keyword as u32,
-            Token::Name => NAME,
-            Token::Assignment { name } => ASSIGNMENT + u32::from(name),
-            Token::Sign(sign) => sign.code(),
-            Token::Unclosed => UNCLOSED,
-        }
-    }
-}
-
-impl TryFrom<u32> for Token {
-    type Error = UnknownCode;
-
-    ghost try_from_gives = { Decodes };
-
-    fn try_from(code: u32) -> Result<Self, UnknownCode> {
-        match code {
-            0..=15 => {
-                let joined = code >= JOINED;
-                match part_with(code % JOINED) {
-                    Some(part) => Ok(Token::Part { part, joined }),
-                    None => Err(UnknownCode(code)),
-                }
-            }
-            16..=31 => Ok(Token::Keyword(Keyword::ALL[code as usize - 16])),
-            32..=44 => Ok(Token::Sign(Sign::ALL[code as usize - 32])),
-            UNCLOSED => Ok(Token::Unclosed),
-            NAME => Ok(Token::Name),
-            64..=319 => Ok(Token::Assignment {
-                name: (code - ASSIGNMENT) as u8,
-            }),
-            47..=63 | 320..=u32::MAX => Err(UnknownCode(code)),
-        }
     }
 }
