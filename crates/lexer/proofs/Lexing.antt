@@ -1,5 +1,6 @@
 -- The tokens that are written, and what is left of the text.
-use Rattle.std.proofs.Common.{◌≡◌, ℕ, zero, suc, ◌+◌, ◌*◌, ◌<◌, ◌≤◌, Bool, true, false, ◌⊎◌, ◌≢◌, List, [], ◌∷◌, ◌++◌, length, get_or, drop, set, Some, None, sym, refl, ap, ◌∙◌, subst, inl, inr, arith}
+use Rattle.std.proofs.Common.{◌≡◌, ℕ, ◌+◌, ◌*◌, ◌<◌, ◌≤◌, Bool, true, false, ◌⊎◌, ◌≢◌, List, [], ◌∷◌, ◌++◌, length, get_or, drop, set, Some, None, sym, refl, ap, ◌∙◌, subst, inl, inr, arith}
+use Rattle.std.proofs.lemmas.Bool.{cases_lt}
 use Rattle.std.proofs.lemmas.List.{drop_all, drop_more, append-nil, append_assoc, length-append, length_push, get_or_push, get_or_append_left, get_or-set_same, get_or-set_other, length-set}
 use Rattle.grammar.specs.Tokens.{Token, token, tokens, start, rest_of}
 use Rattle.grammar.specs.Grammar.{sign}
@@ -53,18 +54,8 @@ pub begin : (t m : List ℕ) → Lexing t m 0 fresh 0 0
 begin t m = record { outer = []; done = []; count = refl; says = refl; toks = λ k z. absurd (omega arith); brackets = none_open; near = omega arith; few = omega arith; within = omega arith }
 
 push : (t : List ℕ) (xs : List Token) (p : Token) (m v : List ℕ) (n : ℕ) → TokensAt t xs m → length xs ≡ n → ((k : ℕ) → k < 3 * n + 3 → get_or v k 0 ≡ get_or m k 0) → TokenAt t p v (3 * n + 3) → TokensAt t (xs ++ (p ∷ [])) v
-push t xs p m v n h e s y k z = by (le_or k n)
+push t xs p m v n h e s y k z = by (cases_lt k n)
   where
-    le_or : (k n : ℕ) → (k < n) ⊎ (n ≤ k)
-    le_or zero zero = inr (omega arith)
-    le_or zero (suc n) = inl (omega arith)
-    le_or (suc k) zero = inr (omega arith)
-    le_or (suc k) (suc n) = more (le_or k n)
-      where
-        more : (k < n) ⊎ (n ≤ k) → (suc k < suc n) ⊎ (suc n ≤ suc k)
-        more (inl a) = inl (omega arith)
-        more (inr a) = inr (omega arith)
-
     by : (k < n) ⊎ (n ≤ k) → TokenAt t (get_or (xs ++ (p ∷ [])) k (token false 0 [])) v (3 * k + 3)
     by (inl l) = rw (get_or_append_left xs (p ∷ []) (token false 0 []) k (omega arith), s (3 * k + 3) (omega arith), s (3 * k + 3 + 1) (omega arith), s (3 * k + 3 + 2) (omega arith)) (h k (omega arith))
     by (inr l) = let q : k ≡ n = omega (arith, length-append xs (p ∷ [])) in rw (q, get_or_push xs p (token false 0 []) n e) y
