@@ -2,9 +2,8 @@
 use Rattle.std.proofs.Common.{◌≡◌, ℕ, zero, suc, ◌+◌, ◌<◌, Bool, true, false, not, ◌&&◌, ◌||◌, eqb, leb, List, [], ◌∷◌, ◌++◌, length, drop, refl, arith, rules}
 use mathlib.Core.Option.{Option, some, none}
 use Rattle.std.proofs.lemmas.Bool.{leb-false, leb-true}
-use Rattle.lexer.specs.declared.token.Keyword.TheVariants.{When, If, Then, Elif, Else, Fi, While, Do, Done, For, In, Case, Esac, OpenBrace, CloseBrace, Not}
-use Rattle.lexer.specs.declared.token.Sign.TheVariants.{Semicolon, Newline, Ampersand, Pipe, Redirect, OpenParen, CloseParen, And, Or, DoubleSemicolon}
-use Rattle.lexer.specs.declared.token.RedirectTag.TheVariants.{Input, Output, Append, Here}
+use Rattle.lexer.specs.declared.token.TheConstants.Keyword.{ALL as all_keywords}
+use Rattle.lexer.specs.declared.token.TheConstants.Sign.{ALL as all_signs}
 use Rattle.lexer.specs.declared.token.PartKind.TheVariants.{Literal, Parameter, Substitution}
 use Rattle.lexer.specs.declared.token.PartKind.{PartKind}
 use Rattle.lexer.specs.declared.token.Token.TheVariants.{Part as part, Keyword as keyword, Name as name, Assignment as assignment, Sign as sign, Unclosed as unclosed}
@@ -35,10 +34,10 @@ counted f (x ∷ xs) b zero h l = (x, omega (arith, h.0))
 counted f (x ∷ xs) b (suc i) h l = let r = counted f xs (suc b) i h.1 (omega arith) in (r.0, omega (arith, r.1))
 
 keyword_coded : (i : ℕ) → i < 16 → Coded (16 + i)
-keyword_coded i l = let r = counted keyword_code (When ∷ If ∷ Then ∷ Elif ∷ Else ∷ Fi ∷ While ∷ Do ∷ Done ∷ For ∷ In ∷ Case ∷ Esac ∷ OpenBrace ∷ CloseBrace ∷ Not ∷ []) 16 i (search rules) l in record { value = keyword r.0; fits = tt; code = r.1 }
+keyword_coded i l = let r = counted keyword_code all_keywords 16 i (search rules) l in record { value = keyword r.0; fits = tt; code = r.1 }
 
 sign_value : (i : ℕ) → i < 13 → Coded (32 + i)
-sign_value i l = let r = counted sign_code_of (Semicolon ∷ Newline ∷ Ampersand ∷ Pipe ∷ Redirect Input ∷ Redirect Output ∷ Redirect Append ∷ Redirect Here ∷ OpenParen ∷ CloseParen ∷ And ∷ Or ∷ DoubleSemicolon ∷ []) 32 i (search rules) l in record { value = sign r.0; fits = tt; code = r.1 }
+sign_value i l = let r = counted sign_code_of all_signs 32 i (search rules) l in record { value = sign r.0; fits = tt; code = r.1 }
 
 sign_coded : (b : Name) → Coded (sign_code b)
 unfolding sign_code

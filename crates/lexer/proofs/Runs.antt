@@ -13,7 +13,8 @@ use Rattle.syntax.specs.Base.{pick, same, letter, digit, name_bytes, valid_name}
 use Rattle.grammar.specs.Grammar.{split_equals}
 use Rattle.grammar.proofs.Fit.{by_bool}
 use Rattle.lexer.specs.declared.token.Keyword.{Keyword}
-use Rattle.lexer.specs.Codes.{all_keywords, keyword_code, keyword_name}
+use Rattle.lexer.specs.declared.token.TheConstants.Keyword.{ALL as all_keywords}
+use Rattle.lexer.specs.Codes.{keyword_code, keyword_name}
 use Rattle.lexer.specs.Stored.{index_of, keyword_index, bare_code}
 use Rattle.lexer.proofs.Lex.{run_of, after}
 
