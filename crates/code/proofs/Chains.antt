@@ -1,7 +1,9 @@
--- Chains of cells, each linked to the next by its first word: one that ends is no longer than the code.
-use Rattle.std.proofs.Common.{◌≡◌, ℕ, zero, suc, ◌+◌, ◌-◌, ◌<◌, ◌≤◌, cond, eqb, List, length, get_or, sym, refl, ap, ◌∙◌, subst, ⊎_elim, arith}
+-- A chain that ends is no longer than the code, and its cells are those of `chain_of`.
+use Rattle.std.proofs.Common.{◌≡◌, ℕ, zero, suc, ◌+◌, ◌-◌, ◌<◌, ◌≤◌, cond, eqb, List, [], ◌∷◌, length, get_or, sym, refl, ap, ◌∙◌, subst, ⊎_elim, arith}
 use Rattle.std.proofs.lemmas.List.{get_or_past}
 use Rattle.std.proofs.lemmas.Bool.{eq-eqb, ne_eqb, cases_eq, cases_lt}
+use Rattle.syntax.specs.Base.{pick}
+use Rattle.code.specs.Chains.{cells}
 
 -- f, with its value at n where it was m
 moved : (ℕ → ℕ) → ℕ → ℕ → ℕ → ℕ
@@ -83,3 +85,11 @@ chain_bound code (suc n) a h =
     let q = chain_from code j (suc n) (suc n - j) a (omega arith) h in
     omega (arith, chain_one code (suc n - i) (suc n - j) (follow code i a) p (subst (λ x. Chain code (suc n - j) x) (sym e) q))) in
     omega arith
+
+-- the cells of a chain that ends, and of one that goes on
+pub cells_end : (words : List ℕ) (n a : ℕ) → a ≡ 0 → cells words n a ≡ []
+cells_end words zero a z = refl
+cells_end words (suc n) a z = ap (λ b. pick b [] (a ∷ cells words n (get_or words a 0))) (eq-eqb a 0 z)
+
+pub cells_more : (words : List ℕ) (n a : ℕ) → 0 < a → cells words (suc n) a ≡ a ∷ cells words n (get_or words a 0)
+cells_more words n a l = let d : a ≡ 0 → ⊥ = λ z. omega arith in ap (λ b. pick b [] (a ∷ cells words n (get_or words a 0))) (ne_eqb a 0 d)
