@@ -14,6 +14,17 @@ use Rattle.meaning.specs.Space.{needs}
 use Rattle.meaning.specs.Statements.{Isolated, Fair, Confluent, CoreFair}
 use Rattle.meaning.specs.Queue.{QueueFair}
 
+-- how many bytes stand on the paper
+abbrev pub paper_bytes : Ran → ℕ
+paper_bytes (Ended n k) = n
+paper_bytes (Still n) = n
+paper_bytes (Spent n) = n
+paper_bytes (NoRoom n) = n
+paper_bytes (OutFull n) = n
+paper_bytes (NotYet n) = 0
+paper_bytes NoText = 0
+paper_bytes Few = 0
+
 -- the texts that are run: as yet none
 abbrev pub Landed : CommandList → Type 0
 Landed l = ⊥
