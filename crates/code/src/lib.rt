@@ -13,6 +13,9 @@ mod cells;
 mod chain;
 mod tags;
 
+/// Lists stand less deep in one another than this.
+pub const LEVELS: u32 = 33;
+
 /// A text beside the words of its code.
 #[derive(Clone, Copy)]
 pub struct Code<'a> {

@@ -1,5 +1,5 @@
 //! Places in a text.
-ghost use Rattle.std.specs.Prelude.{◌≡◌, ◌+◌, ◌-◌, ◌^◌, ◌<◌, length, take};
+ghost use Rattle.std.specs.Prelude.{◌≡◌, ◌+◌, ◌-◌, ◌^◌, ◌<◌, ◌≤◌, length, take};
 ghost use Rattle.front.specs.Places.{after_byte, place_after};
 
 use std::fmt;
@@ -36,7 +36,9 @@ impl Place {
     /// The place behind more bytes.
     pub fn behind(self, bytes: &[u8]) -> Place
         requires { (self.line + length bytes.now < 2 ^ 64) × (self.column + length bytes.now < 2 ^ 64) }
-        ensures { result ≡ place_after bytes.now self.line self.column }
+        ensures is { result ≡ place_after bytes.now self.line self.column }
+        ensures line { result.line ≤ self.line + length bytes.now }
+        ensures column { result.column ≤ self.column + length bytes.now }
     {
         let mut place = self;
         for byte in bytes {

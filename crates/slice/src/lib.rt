@@ -11,15 +11,12 @@ ghost use Rattle.code.specs.Code.{ListCode};
 ghost use Rattle.slice.specs.Slice.{covers_list, left_out};
 ghost use Rattle.slice.specs.Says.{is_literal, spelled, WordsSays, ListSays, ElseSays, CommandSays, PipelineSays, AndOrSays};
 
-use code::{Code, Command, Part};
+use code::{Code, Command, LEVELS, Part};
 
 /// Builtins that are not run.
 const LEFT_OUT: [&[u8]; 10] = [
     b"cat", b"head", b"wc", b"grep", b"rm", b"test", b"read", b"return", b"shift", b"wait",
 ];
-
-/// Lists stand at most 32 deep in commands.
-const LEVELS: u32 = 33;
 
 /// Whether a part of a word is a literal.
 fn is_literal(code: Code<'_>, at: u32) -> bool
