@@ -1,58 +1,17 @@
 -- A command's name, and what it does.
-use Rattle.std.proofs.Common.{◌≡◌, ℕ, ◌+◌, ◌*◌, ◌%◌, ◌<◌, ◌≤◌, Bool, true, false, eqb, leb, List, [], ◌∷◌, ◌++◌, length, get_or, drop, codes, sym, refl, ap, ◌∙◌, arith}
+use Rattle.std.proofs.Common.{◌≡◌, ℕ, Bool, true, false, List, [], ◌∷◌, ◌++◌, codes, sym, refl, ap, ◌∙◌}
 use mathlib.Core.Option.{some}
-use Rattle.std.proofs.lemmas.List.{drop_more, drop_all}
 use Rattle.syntax.specs.Base.{pick, opt, same, Name}
 use Rattle.syntax.specs.Tree.{no_redirects}
-use Rattle.reader.specs.Layout.{flag}
 use Rattle.meaning.specs.System.{QuotedByte, b_print, b_done, b_yes, b_head, b_wc, b_grep, then_invoke, at_list, at_redirects, at_unwind, at_wait, break, continue, return, exit, Frame, f_arguments, Process, System, function_body}
 use Rattle.meaning.specs.Words.{bytes_of, as_line, join_words, first_or, tail_of, test_status}
 use Rattle.meaning.specs.Step.{name_echo, name_cat, name_head, name_wc, name_grep, name_seq, name_rm, name_yes, name_true, name_false, name_test, name_read, name_exit, name_return, name_break, name_continue, name_shift, name_wait, StepResult, step, goes_to, completes, start_builtin, start_cat, start_seq, start_counted, start_unwind, start_read, remove_files, run_builtin, with_arguments, with_jobs}
 use Rattle.machine.specs.declared.names.BuiltinName.{BuiltinName}
 use Rattle.machine.specs.declared.names.BuiltinName.TheVariants.{Echo, Cat, Head, Wc, Grep, Seq, Rm, Yes, True, False, Test, Read, Exit, Return, Break, Continue, Shift, Wait, Other}
-use Rattle.machine.specs.Encoding.{encoded, marked, Small, named}
+use Rattle.words.proofs.Texts.{low, byte_is}
+use Rattle.words.specs.Encoding.{encoded, marked, Small, named}
 use Rattle.machine.specs.Commands.{name_of, name_at}
 use Rattle.machine.specs.Represent.{Rest, process}
-
-leb_yes : (w : ℕ) → 512 ≤ w → leb 512 w ≡ true
-leb_yes w h = grind arith
-
-leb_not : (w : ℕ) → w < 512 → leb 512 w ≡ false
-leb_not w h = grind arith
-
-eqb_yes : (a b : ℕ) → a ≡ b → eqb a b ≡ true
-eqb_yes a b h = grind arith
-
-eqb_not : (a b : ℕ) → (a ≡ b → ⊥) → eqb a b ≡ false
-eqb_not a b h = grind arith
-
--- reading a name off, place by place
-pub named_past : (V nm : List ℕ) (j : ℕ) → j < length nm → length V ≤ j → named (drop j V) (drop j nm) ≡ false
-named_past V nm j h l = rw (drop_all j V l, drop_more nm j 0 h)
-
-pub named_mark : (V nm : List ℕ) (j w : ℕ) → j < length nm → j < length V → w ≡ get_or V j 0 → 512 ≤ w → named (drop j V) (drop j nm) ≡ false
-named_mark V nm j w h l e g = rw (drop_more V j 0 l, drop_more nm j 0 h, ← e, leb_yes w g)
-
-pub named_not : (V nm : List ℕ) (j w : ℕ) → j < length nm → j < length V → w ≡ get_or V j 0 → w < 512 → (w % 256 ≡ get_or nm j 0 → ⊥) → named (drop j V) (drop j nm) ≡ false
-named_not V nm j w h l e g n = rw (drop_more V j 0 l, drop_more nm j 0 h, ← e, leb_not w g, eqb_not (w % 256) (get_or nm j 0) n)
-
-pub named_on : (V nm : List ℕ) (j w : ℕ) → j < length nm → j < length V → w ≡ get_or V j 0 → w < 512 → w % 256 ≡ get_or nm j 0 → named (drop j V) (drop j nm) ≡ named (drop (j + 1) V) (drop (j + 1) nm)
-named_on V nm j w h l e g n = rw (drop_more V j 0 l, drop_more nm j 0 h, ← e, leb_not w g, eqb_yes (w % 256) (get_or nm j 0) n)
-
-pub named_ends : (V nm : List ℕ) (n : ℕ) → length nm ≤ n → length V ≤ n → named (drop n V) (drop n nm) ≡ true
-named_ends V nm n e l = rw (drop_all n V l, drop_all n nm e)
-
-pub named_last : (V nm : List ℕ) (n w : ℕ) → length nm ≤ n → n < length V → w ≡ get_or V n 0 → named (drop n V) (drop n nm) ≡ leb 512 w
-named_last V nm n w e l d = rw (drop_more V n 0 l, drop_all n nm e, ← d)
-
--- a byte that is encoded
-pub low : (b : ℕ) (q : Bool) → b < 256 → leb 512 (b + 256 * flag q) ≡ false
-low b true h = leb_not (b + 256 * 1) (omega arith)
-low b false h = leb_not (b + 256 * 0) (omega arith)
-
-pub byte_is : (b : ℕ) (q : Bool) → b < 256 → (b + 256 * flag q) % 256 ≡ b
-byte_is b true h = omega arith
-byte_is b false h = omega arith
 
 named_same : (x : List QuotedByte) (ds : List (List QuotedByte)) (nm : List ℕ) → Small x → named (encoded x ++ marked ds) nm ≡ same (bytes_of x) nm
 named_same [] [] [] s = refl

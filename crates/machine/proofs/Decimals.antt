@@ -1,21 +1,14 @@
 -- Numbers as digits, the last first.
-use Rattle.std.proofs.Common.{◌≡◌, ℕ, zero, suc, ◌+◌, ◌/◌, ◌%◌, ◌<◌, ◌≤◌, Bool, true, false, ltb, List, [], ◌∷◌, ◌++◌, length, sym, refl, ap, ◌∙◌, subst, arith}
+use Rattle.std.proofs.Common.{◌≡◌, ℕ, zero, suc, ◌+◌, ◌/◌, ◌%◌, ◌<◌, ◌≤◌, Bool, true, false, ltb, List, [], ◌∷◌, ◌++◌, length, Ok, Err, Result, sym, refl, ap, ◌∙◌, subst, arith}
+use Rattle.std.proofs.lemmas.Bool.{ltb-false, le-ltb, lt-ltb}
 use Rattle.std.proofs.lemmas.List.{append_assoc, length-append}
 use Rattle.syntax.specs.Base.{pick}
 use Rattle.meaning.specs.Words.{digits, decimal, as_line}
-use Rattle.machine.specs.Encoding.{Bytes, rev}
-use Rattle.machine.specs.Promises.{Pushed}
-use Rattle.machine.proofs.Pushes.{push_more, push_fails}
-use Rattle.machine.proofs.Texts.{rev_push, rev_length}
-
-small : (n : ℕ) → n < 10 → ltb n 10 ≡ true
-small n h = grind arith
-
-large : (n : ℕ) → 10 ≤ n → ltb n 10 ≡ false
-large n h = grind arith
-
-not_small : (n : ℕ) → ltb n 10 ≡ false → 10 ≤ n
-not_small n h = grind arith
+use Rattle.words.specs.Encoding.{Bytes, rev}
+use Rattle.store.specs.declared.Refusal.{Refusal}
+use Rattle.words.specs.Pushed.{Pushed}
+use Rattle.words.proofs.Pushes.{push_nil, push_more, push_fails}
+use Rattle.words.proofs.Texts.{rev_push, rev_length}
 
 digits_more : (d n : ℕ) (ds : List ℕ) → digits d n ds ≡ digits d n [] ++ ds
 digits_more zero n ds = refl
@@ -38,13 +31,13 @@ digits_fuel (suc d) (suc e) n ds h l = by (ltb n 10) refl (λ p q. digits_fuel d
 
     by : (b : Bool) → ltb n 10 ≡ b → (n / 10 < d → n / 10 < e → digits d (n / 10) (c ∷ ds) ≡ digits e (n / 10) (c ∷ ds)) → pick b (c ∷ ds) (digits d (n / 10) (c ∷ ds)) ≡ pick b (c ∷ ds) (digits e (n / 10) (c ∷ ds))
     by true q f = refl
-    by false q f = let g = not_small n q in f (omega arith) (omega arith)
+    by false q f = let g = ltb-false n 10 q in f (omega arith) (omega arith)
 
 pub decimal_last : (n : ℕ) → 10 ≤ n → rev (decimal n) ≡ (48 + n % 10) ∷ rev (decimal (n / 10))
-decimal_last n h = rw (large n h) (ap rev (digits_more n (n / 10) ((48 + n % 10) ∷ []) ∙ ap (λ z. z ++ ((48 + n % 10) ∷ [])) (digits_fuel n (suc (n / 10)) (n / 10) [] (omega arith) (omega arith))) ∙ rev_push (decimal (n / 10)) (48 + n % 10))
+decimal_last n h = rw (le-ltb n 10 h) (ap rev (digits_more n (n / 10) ((48 + n % 10) ∷ []) ∙ ap (λ z. z ++ ((48 + n % 10) ∷ [])) (digits_fuel n (suc (n / 10)) (n / 10) [] (omega arith) (omega arith))) ∙ rev_push (decimal (n / 10)) (48 + n % 10))
 
 pub decimal_one : (n : ℕ) → n < 10 → rev (decimal n) ≡ (48 + n) ∷ []
-decimal_one n h = let e : n % 10 ≡ n = omega arith in rw (small n h, e)
+decimal_one n h = let e : n % 10 ≡ n = omega arith in rw (lt-ltb n 10 h, e)
 
 bytes_digits : (d n : ℕ) (ds : List ℕ) → Bytes ds → Bytes (digits d n ds)
 bytes_digits zero n ds h = h
@@ -64,23 +57,23 @@ bytes_decimal n = bytes_line (decimal n) (bytes_digits (suc n) n [] tt)
 -- digits pushed one after the other
 pub record Digits (b : ℕ × List Bool) (i : ℕ) (m m' : List (List ℕ)) (n rest : ℕ) : Type 0 where
   pub said : List ℕ
-  pub pushed : Pushed b i m m' said true
+  pub pushed : Pushed b i m m' said (Ok tt)
   pub whole : said ++ rev (decimal rest) ≡ rev (decimal n)
 
-pub digits_none : {b : ℕ × List Bool} {i : ℕ} {m : List (List ℕ)} (n : ℕ) → Pushed b i m m [] true → Digits b i m m n n
-digits_none n h = record { said = []; pushed = h; whole = refl }
+pub digits_none : {b : ℕ × List Bool} {i : ℕ} {m : List (List ℕ)} (n : ℕ) → Digits b i m m n n
+digits_none n = record { said = []; pushed = push_nil; whole = refl }
 
-pub digits_next : {b : ℕ × List Bool} {i : ℕ} {m m₁ m₂ : List (List ℕ)} {n rest : ℕ} → Digits b i m m₁ n rest → 10 ≤ rest → Pushed b i m₁ m₂ ((48 + rest % 10) ∷ []) true → Digits b i m m₂ n (rest / 10)
-digits_next {rest = rest} d h p = record { said = d.said ++ ((48 + rest % 10) ∷ []); pushed = push_more d.pushed refl p; whole = append_assoc d.said ((48 + rest % 10) ∷ []) (rev (decimal (rest / 10))) ∙ sym (ap (λ z. d.said ++ z) (decimal_last rest h)) ∙ d.whole }
+pub digits_next : {b : ℕ × List Bool} {i : ℕ} {m m₁ m₂ : List (List ℕ)} {n rest : ℕ} {u : Unit {0}} → Digits b i m m₁ n rest → 10 ≤ rest → Pushed b i m₁ m₂ ((48 + rest % 10) ∷ []) (Ok u) → Digits b i m m₂ n (rest / 10)
+digits_next {rest = rest} d h p = record { said = d.said ++ ((48 + rest % 10) ∷ []); pushed = push_more d.pushed p; whole = append_assoc d.said ((48 + rest % 10) ∷ []) (rev (decimal (rest / 10))) ∙ sym (ap (λ z. d.said ++ z) (decimal_last rest h)) ∙ d.whole }
 
-pub digits_fails : {b : ℕ × List Bool} {i : ℕ} {m m₁ m₂ : List (List ℕ)} {n rest : ℕ} {r : Bool} → Digits b i m m₁ n rest → 10 ≤ rest → Pushed b i m₁ m₂ ((48 + rest % 10) ∷ []) r → r ≡ false → Pushed b i m m₂ (rev (decimal n)) false
-digits_fails {rest = rest} d h p e = push_fails _ (push_more d.pushed refl p) e (omega (arith, ap length d.whole, length-append d.said (rev (decimal rest)), length-append d.said ((48 + rest % 10) ∷ []), ap length (decimal_last rest h)))
+pub digits_fails : {b : ℕ × List Bool} {i : ℕ} {m m₁ m₂ : List (List ℕ)} {n rest : ℕ} {v w : Refusal} → Digits b i m m₁ n rest → 10 ≤ rest → Pushed b i m₁ m₂ ((48 + rest % 10) ∷ []) (Err v) → Pushed b i m m₂ (rev (decimal n)) (Err w)
+digits_fails {rest = rest} d h p = push_fails _ (push_more d.pushed p) (omega (arith, ap length d.whole, length-append d.said (rev (decimal rest)), length-append d.said ((48 + rest % 10) ∷ []), ap length (decimal_last rest h)))
 
-pub digits_last : {b : ℕ × List Bool} {i : ℕ} {m m₁ m₂ : List (List ℕ)} {n rest : ℕ} {r : Bool} → Digits b i m m₁ n rest → rest < 10 → Pushed b i m₁ m₂ ((48 + rest) ∷ []) r → Pushed b i m m₂ (rev (decimal n)) r
-digits_last {b} {i} {m} {m₂ = m₂} {rest = rest} {r = r} d h p = subst (λ y. Pushed b i m m₂ y r) (sym (ap (λ z. d.said ++ z) (decimal_one rest h)) ∙ d.whole) (push_more d.pushed refl p)
+pub digits_last : {b : ℕ × List Bool} {i : ℕ} {m m₁ m₂ : List (List ℕ)} {n rest : ℕ} {r : Result (Unit {0}) Refusal} → Digits b i m m₁ n rest → rest < 10 → Pushed b i m₁ m₂ ((48 + rest) ∷ []) r → Pushed b i m m₂ (rev (decimal n)) r
+digits_last {b} {i} {m} {m₂ = m₂} {rest = rest} {r = r} d h p = subst (λ y. Pushed b i m m₂ y r) (sym (ap (λ z. d.said ++ z) (decimal_one rest h)) ∙ d.whole) (push_more d.pushed p)
 
-pub decimal_line : {b : ℕ × List Bool} {i : ℕ} {m m₁ m₂ : List (List ℕ)} (n : ℕ) {p r : Bool} → Pushed b i m m₁ (10 ∷ []) p → p ≡ true → Pushed b i m₁ m₂ (rev (decimal n)) r → Pushed b i m m₂ (rev (as_line (decimal n))) r
-decimal_line n p e q = rw (rev_push (decimal n) 10) (push_more p e q)
+pub decimal_line : {b : ℕ × List Bool} {i : ℕ} {m m₁ m₂ : List (List ℕ)} (n : ℕ) {u : Unit {0}} {r : Result (Unit {0}) Refusal} → Pushed b i m m₁ (10 ∷ []) (Ok u) → Pushed b i m₁ m₂ (rev (decimal n)) r → Pushed b i m m₂ (rev (as_line (decimal n))) r
+decimal_line n p q = rw (rev_push (decimal n) 10) (push_more p q)
 
 pub line_longer : (n : ℕ) → 1 ≤ length (rev (as_line (decimal n)))
 line_longer n = omega (arith, rev_length (as_line (decimal n)), length-append (decimal n) (10 ∷ []))

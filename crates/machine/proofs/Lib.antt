@@ -1,8 +1,6 @@
-pub mod Pushes
 pub mod Trees
 pub mod Places
 pub mod Steps
-pub mod Texts
 pub mod Expand
 pub mod Commands
 pub mod Numbers
@@ -12,3 +10,4 @@ pub mod Decimals
 pub mod Printing
 pub mod Moves
 pub mod Rooms
+pub mod NameTable

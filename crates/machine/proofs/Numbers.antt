@@ -1,27 +1,21 @@
 -- Numbers that are read.
-use Rattle.std.proofs.Common.{◌≡◌, ℕ, zero, suc, ◌+◌, ◌-◌, ◌*◌, ◌%◌, ◌^◌, ◌<◌, ◌≤◌, Bool, true, false, ◌&&◌, eqb, leb, List, [], ◌∷◌, ◌++◌, length, get_or, take, drop, Some, None, codes, Option as Maybe, sym, refl, ap, ◌∙◌, subst, ⊎_elim, arith, pow-add}
+use Rattle.std.proofs.Common.{◌≡◌, ℕ, zero, suc, ◌+◌, ◌-◌, ◌*◌, ◌%◌, ◌^◌, ◌<◌, ◌≤◌, Bool, true, false, ◌&&◌, eqb, leb, List, [], ◌∷◌, ◌++◌, length, get_or, take, drop, Some, None, codes, Option as Maybe, Result, sym, refl, ap, ◌∙◌, subst, ⊎_elim, arith, pow-add}
 use mathlib.Core.Option.{Option, some, none}
 use Rattle.std.proofs.lemmas.List.{drop_more, drop_all, take_at, take_all, length-take}
-use Rattle.std.proofs.lemmas.Bool.{cases_lt}
+use Rattle.std.proofs.lemmas.Bool.{cases_lt, lt-leb, le-leb, eqb-true}
 use Rattle.syntax.specs.Base.{opt}
 use Rattle.meaning.specs.System.{QuotedByte}
 use Rattle.meaning.specs.Words.{decimal, digits_value, number, bytes_of, first_or}
-use Rattle.machine.specs.Encoding.{encoded, marked, plain, Small, AllSmall, Bytes, shown, rev, word_length}
+use Rattle.words.specs.Encoding.{encoded, marked, plain, Small, AllSmall, Bytes, shown, rev, word_length}
 use Rattle.machine.specs.Arguments.{lows, maybe, number_of, exit_number, chosen}
-use Rattle.machine.specs.Promises.{Pushed}
-use Rattle.machine.proofs.Pushes.{differ}
-use Rattle.machine.proofs.Texts.{encoded_length, word_is, shown_length, line_bytes, rest_is}
-use Rattle.machine.proofs.Commands.{low, byte_is}
+use Rattle.store.specs.declared.Refusal.{Refusal}
+use Rattle.words.specs.Pushed.{Pushed}
+use Rattle.words.proofs.Pushes.{differ}
+use Rattle.words.proofs.Texts.{low, byte_is, encoded_length, word_is, shown_length, line_bytes}
 
 lows_length : (ws : List ℕ) → length (lows ws) ≡ length ws
 lows_length [] = refl
 lows_length (w ∷ ws) = ap suc (lows_length ws)
-
-leb_yes : (a b : ℕ) → a ≤ b → leb a b ≡ true
-leb_yes a b h = grind arith
-
-leb_not : (a b : ℕ) → b < a → leb a b ≡ false
-leb_not a b h = grind arith
 
 and_false : (a : Bool) → (a && false) ≡ false
 and_false true = refl
@@ -33,21 +27,21 @@ number_short [] h = refl
 number_short (w ∷ ws) h = absurd (omega arith)
 
 pub number_long : (ws : List ℕ) → 9 < length ws → None ≡ number_of ws
-number_long ws h = sym (rw (lows_length ws, leb_not (length ws) 9 h, and_false (leb 1 (length ws))))
+number_long ws h = sym (rw (lows_length ws, lt-leb (length ws) 9 h, and_false (leb 1 (length ws))))
 
 -- of the right length
 pub number_right : (ws : List ℕ) → 1 ≤ length ws → length ws ≤ 9 → number_of ws ≡ maybe (digits_value 0 (lows ws))
-number_right ws h l = rw (lows_length ws, leb_yes 1 (length ws) h, leb_yes (length ws) 9 l)
+number_right ws h l = rw (lows_length ws, le-leb 1 (length ws) h, le-leb (length ws) 9 l)
 
 -- one digit
 pub digit_low : (ws : List ℕ) (n i : ℕ) → i < length ws → get_or ws i 0 % 256 < 48 → digits_value n (lows (drop i ws)) ≡ none
-digit_low ws n i l h = rw (drop_more ws i 0 l, leb_not 48 (get_or ws i 0 % 256) h)
+digit_low ws n i l h = rw (drop_more ws i 0 l, lt-leb 48 (get_or ws i 0 % 256) h)
 
 pub digit_high : (ws : List ℕ) (n i : ℕ) → i < length ws → 57 < get_or ws i 0 % 256 → digits_value n (lows (drop i ws)) ≡ none
-digit_high ws n i l h = rw (drop_more ws i 0 l, leb_not (get_or ws i 0 % 256) 57 h, and_false (leb 48 (get_or ws i 0 % 256)))
+digit_high ws n i l h = rw (drop_more ws i 0 l, lt-leb (get_or ws i 0 % 256) 57 h, and_false (leb 48 (get_or ws i 0 % 256)))
 
 pub digit_on : (ws : List ℕ) (n i : ℕ) → i < length ws → 48 ≤ get_or ws i 0 % 256 → get_or ws i 0 % 256 ≤ 57 → digits_value n (lows (drop i ws)) ≡ digits_value (n * 10 + (get_or ws i 0 % 256 - 48)) (lows (drop (i + 1) ws))
-digit_on ws n i l h k = rw (drop_more ws i 0 l, leb_yes 48 (get_or ws i 0 % 256) h, leb_yes (get_or ws i 0 % 256) 57 k)
+digit_on ws n i l h k = rw (drop_more ws i 0 l, le-leb 48 (get_or ws i 0 % 256) h, le-leb (get_or ws i 0 % 256) 57 k)
 
 pub digit_end : (ws : List ℕ) (n i : ℕ) → length ws ≤ i → digits_value n (lows (drop i ws)) ≡ some n
 digit_end ws n i l = ap (λ z. digits_value n (lows z)) (drop_all i ws l)
@@ -69,14 +63,17 @@ pow_small (suc (suc (suc (suc (suc (suc (suc (suc zero)))))))) n h l = omega ari
 pow_small (suc (suc (suc (suc (suc (suc (suc (suc (suc zero))))))))) n h l = omega arith
 pow_small (suc (suc (suc (suc (suc (suc (suc (suc (suc (suc i)))))))))) n h l = absurd (omega arith)
 
+-- tests of a length
+pub no_words : {n : ℕ} → eqb n 0 ≡ true → n ≡ 0
+no_words {n} e = grind arith
+
+pub some_words : {n : ℕ} → eqb n 0 ≡ false → n ≡ 0 → ⊥
+some_words {n} e = grind arith
+
 -- the first argument
 pub exit_is : (A : List ℕ) (s n : ℕ) → (length A ≡ 0 → ⊥) → n ≡ word_length (drop 1 A) → number_of (take n (drop 1 A)) ≡ exit_number A s
 exit_is [] s n z e = absurd (z refl)
 exit_is (w ∷ ws) s n z e = ap (λ j. number_of (take j ws)) e
-
-pub chosen_is : (A : List ℕ) (n : ℕ) → (length A ≡ 0 → ⊥) → n ≡ word_length (drop 1 A) → shown (take n (drop 1 A)) ≡ chosen A
-chosen_is [] n z e = absurd (z refl)
-chosen_is (w ∷ ws) n z e = ap (λ j. shown (take j ws)) e
 
 first_word : (e : List QuotedByte) (es : List (List QuotedByte)) → Small e → take (word_length (encoded e ++ marked es)) (encoded e ++ marked es) ≡ encoded e
 first_word e es s = take_at (encoded e) (marked es) (word_length (encoded e ++ marked es)) (encoded_length e ∙ sym (word_is e es s))
@@ -117,18 +114,15 @@ status_number n l = by (number (decimal n)) (every 256 refl n l)
   where
     by : (o : Option ℕ) → opt o false (λ v. eqb v n) ≡ true → o ≡ some n
     by none h = absurd (differ (sym h))
-    by (some v) h = ap some (same_number v n h)
-      where
-        same_number : (a b : ℕ) → eqb a b ≡ true → a ≡ b
-        same_number a b h = grind arith
+    by (some v) h = ap some (eqb-true v n h)
 
 pub some_number : (o : Option ℕ) (n : ℕ) → Some n ≡ maybe o → o ≡ some n
-some_number none n h = let z : ◌≡◌ {A = ℕ} 0 1 = cc in absurd (omega arith)
+some_number none n h = absurd (cc)
 some_number (some v) n h = let z : n ≡ v = cc in ap some (sym z)
 
 pub no_number : (o : Option ℕ) → ◌≡◌ {A = Maybe ℕ} None (maybe o) → o ≡ none
 no_number none h = refl
-no_number (some v) h = let z : ◌≡◌ {A = ℕ} 0 1 = cc in absurd (omega arith)
+no_number (some v) h = absurd (cc)
 
 number_first : (e : List QuotedByte) (es : List (List QuotedByte)) → Small e → number_of (take (word_length (encoded e ++ marked es)) (encoded e ++ marked es)) ≡ maybe (number (bytes_of e))
 number_first e es s = ap number_of (first_word e es s) ∙ ap (λ z. maybe (number z)) (lows_encoded e s)
@@ -139,7 +133,7 @@ exit_some [] n v s l h = let z : v ≡ n = cc in status_number n l ∙ ap some (
 exit_some (e ∷ es) n v s l h = some_number (number (bytes_of e)) v (h ∙ number_first e es s.0)
 
 pub exit_none : (es : List (List QuotedByte)) (n : ℕ) → AllSmall es → ◌≡◌ {A = Maybe ℕ} None (exit_number (marked es) n) → number (first_or (decimal n) (plain es)) ≡ none
-exit_none [] n s h = let z : ◌≡◌ {A = ℕ} 0 1 = cc in absurd (omega arith)
+exit_none [] n s h = absurd (cc)
 exit_none (e ∷ es) n s h = no_number (number (bytes_of e)) (h ∙ number_first e es s.0)
 
 pub exit_empty : (A : List ℕ) (n : ℕ) → length A ≡ 0 → Some n ≡ exit_number A n
@@ -161,8 +155,8 @@ drop_take (suc i) n [] = let e : suc i + n ≡ suc (i + n) = omega arith in rw e
 drop_take (suc i) n (v ∷ V) = let e : suc i + n ≡ suc (i + n) = omega arith in rw e (drop_take i n V)
 
 -- the first argument, where there is one, and where there is none
-pub choice_some : {b : ℕ × List Bool} {t : ℕ} {m m' : List (List ℕ)} {r : Bool} (V U : List ℕ) (first n : ℕ) → U ≡ V → first < length V → n ≡ word_length (take (length U - (first + 1)) (drop (first + 1) U)) → Pushed b t m m' (rev (shown (drop (first + 1) (take (first + 1 + n) V)) ++ (10 ∷ []))) r → Pushed b t m m' (rev (chosen (drop first V) ++ (10 ∷ []))) r
-choice_some {b} {t} {m} {m'} {r} V U first n e l f h = subst (λ y. Pushed b t m m' (rev (y ++ (10 ∷ []))) r) (ap shown (drop_take (first + 1) n V) ∙ sym (ap chosen (drop_more V first 0 l) ∙ sym (ap (λ j. shown (take j (drop (first + 1) V))) (f ∙ ap word_length (rest_is U V (first + 1) e))))) h
+pub choice_some : {b : ℕ × List Bool} {t : ℕ} {m m' : List (List ℕ)} {r : Result (Unit {0}) Refusal} (V : List ℕ) (first n : ℕ) → first < length V → n ≡ word_length (drop (first + 1) V) → Pushed b t m m' (rev (shown (drop (first + 1) (take (first + 1 + n) V)) ++ (10 ∷ []))) r → Pushed b t m m' (rev (chosen (drop first V) ++ (10 ∷ []))) r
+choice_some {b} {t} {m} {m'} {r} V first n l f h = subst (λ y. Pushed b t m m' (rev (y ++ (10 ∷ []))) r) (ap shown (drop_take (first + 1) n V) ∙ sym (ap chosen (drop_more V first 0 l) ∙ sym (ap (λ j. shown (take j (drop (first + 1) V))) f))) h
 
-pub choice_none : {b : ℕ × List Bool} {t : ℕ} {m m' : List (List ℕ)} {r : Bool} (V : List ℕ) (first : ℕ) → length V ≤ first → Pushed b t m m' (10 ∷ 121 ∷ []) r → Pushed b t m m' (rev (chosen (drop first V) ++ (10 ∷ []))) r
+pub choice_none : {b : ℕ × List Bool} {t : ℕ} {m m' : List (List ℕ)} {r : Result (Unit {0}) Refusal} (V : List ℕ) (first : ℕ) → length V ≤ first → Pushed b t m m' (10 ∷ 121 ∷ []) r → Pushed b t m m' (rev (chosen (drop first V) ++ (10 ∷ []))) r
 choice_none V first l h = rw (drop_all first V l) h

@@ -1,19 +1,21 @@
 -- Printing, and a builtin between prints.
-use Rattle.std.proofs.Common.{◌≡◌, ℕ, suc, ◌+◌, ◌-◌, ◌%◌, ◌<◌, ◌≤◌, min, Bool, true, false, leb, List, [], ◌∷◌, ◌++◌, length, get_or, take, set, refl, ap, ◌∙◌, arith}
+use Rattle.std.proofs.Common.{◌≡◌, ℕ, suc, ◌+◌, ◌-◌, ◌%◌, ◌<◌, ◌≤◌, min, Bool, true, false, List, [], ◌∷◌, ◌++◌, length, get_or, take, set, refl, ap, ◌∙◌, arith}
+use Rattle.std.proofs.lemmas.Bool.{lt-leb, le-leb}
 use Rattle.std.proofs.lemmas.List.{length-append, get_or_at, take_at}
 use Rattle.meaning.specs.System.{Control, b_print, b_seq, b_yes, at_builtin, at_status, Frame}
 use Rattle.machine.specs.declared.process.Builtin.{Builtin as Builtin'}
 use Rattle.machine.specs.declared.process.Builtin.TheVariants.{Done, Seq, Yes}
 use Rattle.machine.specs.declared.process.Control.TheVariants.{AtPrint, AtBuiltin, AtStatus}
 use Rattle.machine.specs.declared.process.Process.{Process as Process'}
-use Rattle.machine.specs.Encoding.{rev}
+use Rattle.words.specs.Encoding.{rev}
 use Rattle.machine.specs.Decide.{going}
 use Rattle.machine.specs.Represent.{Rest, abstract, ControlRep, r_print, r_builtin, r_status, r_done, r_seq, r_yes, Rep}
-use Rattle.machine.specs.Promises.{Scarce, After, Printed, Filled, Tight, tight_now, tight_then}
+use Rattle.words.specs.Pushed.{Scarce}
+use Rattle.machine.specs.Promises.{After, Printed, Filled, Tight, tight_now, tight_then}
 use Rattle.machine.proofs.Places.{now_text, kept_none, kept_set}
 use Rattle.segments.specs.Layout.{need}
 use Rattle.meaning.specs.Words.{decimal, as_line}
-use Rattle.machine.proofs.Texts.{rev_length}
+use Rattle.words.proofs.Texts.{rev_length}
 use Rattle.machine.proofs.Decimals.{bytes_decimal}
 
 pub print_none : {text code : List ℕ} {number : ℕ → ℕ} {live : List Bool} {m : List (List ℕ)} {p : Process'} {r : Rest} {c : Control} {k : List Frame} (v : Builtin') → p.control ≡ AtPrint v → length (get_or m (p.base + 2) []) ≡ 0 → Rep text code number live m p r c k → After text code number live m m p r c k (going p (AtBuiltin v))
@@ -52,17 +54,11 @@ done_on {text} {code} {number} {live} {m} {p} {r} {k = k} n e h = go (rw e at h.
     go : {c : Control} → ControlRep text code h.lists.words h.lists.text h.lists.line (AtBuiltin (Done n)) c → After text code number live m m p r c k (going p (AtStatus n))
     go (r_builtin w t (r_done l z)) = record { c' = at_status n; k' = k; steps_to = λ s. refl; rep = record { lists = h.lists; has = h.has; control = r_status w t l z; frames = h.frames; status = h.status; functions = h.functions }; kept = kept_none; base = refl }
 
-less_not : (a b : ℕ) → b < a → leb a b ≡ false
-less_not a b h = grind arith
-
-less_yes : (a b : ℕ) → a ≤ b → leb a b ≡ true
-less_yes a b h = grind arith
-
 pub seq_done : {text code : List ℕ} {number : ℕ → ℕ} {live : List Bool} {m : List (List ℕ)} {p : Process'} {r : Rest} {c : Control} {k : List Frame} (a b : ℕ) → p.control ≡ AtBuiltin (Seq a b) → b < a → Rep text code number live m p r c k → After text code number live m m p r c k (going p (AtStatus 0))
 seq_done {text} {code} {number} {live} {m} {p} {r} {k = k} a b e z h = go (rw e at h.control)
   where
     go : {c : Control} → ControlRep text code h.lists.words h.lists.text h.lists.line (AtBuiltin (Seq a b)) c → After text code number live m m p r c k (going p (AtStatus 0))
-    go (r_builtin w t (r_seq l n)) = record { c' = at_status 0; k' = k; steps_to = λ s. rw (less_not a b z); rep = record { lists = h.lists; has = h.has; control = r_status w t l (omega arith); frames = h.frames; status = h.status; functions = h.functions }; kept = kept_none; base = refl }
+    go (r_builtin w t (r_seq l n)) = record { c' = at_status 0; k' = k; steps_to = λ s. rw (lt-leb a b z); rep = record { lists = h.lists; has = h.has; control = r_status w t l (omega arith); frames = h.frames; status = h.status; functions = h.functions }; kept = kept_none; base = refl }
 
 pub seq_on : {text code : List ℕ} {number : ℕ → ℕ} {live : List Bool} {m m' : List (List ℕ)} {p : Process'} {r : Rest} {c : Control} {k : List Frame} (a b a' : ℕ) → p.control ≡ AtBuiltin (Seq a b) → a ≤ b → a' ≡ min (a + 1) 4294967295 → m' ≡ set m (p.base + 2) (get_or m (p.base + 2) [] ++ rev (as_line (decimal a))) → Rep text code number live m p r c k → After text code number live m m' p r c k (going p (AtPrint (Seq a' b)))
 seq_on {text} {code} {number} {live} {m} {m'} {p} {r} {k = k} a b a' e z i u h = go (rw e at h.control)
@@ -70,13 +66,13 @@ seq_on {text} {code} {number} {live} {m} {m'} {p} {r} {k = k} a b a' e z i u h =
     go : {c : Control} → ControlRep text code h.lists.words h.lists.text h.lists.line (AtBuiltin (Seq a b)) c → After text code number live m m' p r c k (going p (AtPrint (Seq a' b)))
     go (r_builtin w t (r_seq l n)) =
         let j : a' ≡ suc a = omega (arith, i, n) in
-        record { c' = at_builtin (b_print (as_line (decimal a)) (b_seq (suc a) b)); k' = k; steps_to = λ s. rw (less_yes a b z); rep = record { lists = record { frames = h.lists.frames; words = h.lists.words; text = rev (as_line (decimal a)); line = h.lists.line }; has = now_text (λ z. z ++ rev (as_line (decimal a))) u (ap (λ z. z ++ rev (as_line (decimal a))) t) h.has; control = rw j (r_print (as_line (decimal a)) w refl (bytes_decimal a) (r_seq l n)); frames = h.frames; status = h.status; functions = h.functions }; kept = rw u (kept_set (p.base + 2) _ (omega arith) (omega arith)); base = refl }
+        record { c' = at_builtin (b_print (as_line (decimal a)) (b_seq (suc a) b)); k' = k; steps_to = λ s. rw (le-leb a b z); rep = record { lists = record { frames = h.lists.frames; words = h.lists.words; text = rev (as_line (decimal a)); line = h.lists.line }; has = now_text (λ z. z ++ rev (as_line (decimal a))) u (ap (λ z. z ++ rev (as_line (decimal a))) t) h.has; control = rw j (r_print (as_line (decimal a)) w refl (bytes_decimal a) (r_seq l n)); frames = h.frames; status = h.status; functions = h.functions }; kept = rw u (kept_set (p.base + 2) _ (omega arith) (omega arith)); base = refl }
 
 pub seq_tight : {text code : List ℕ} {number : ℕ → ℕ} {b : ℕ × List Bool} {m : List (List ℕ)} {p : Process'} {r : Rest} {c : Control} {k : List Frame} (x y : ℕ) → p.control ≡ AtBuiltin (Seq x y) → x ≤ y → (get_or b.1 (p.base + 2) false ≡ true → Scarce b (need m + length (rev (as_line (decimal x))))) → Rep text code number b.1 m p r c k → Tight b m number p r c k
 seq_tight {text} {code} {number} {b} {m} {p} {r} {k = k} x y e z u h = go (rw e at h.control)
   where
     go : {c : Control} → ControlRep text code h.lists.words h.lists.text h.lists.line (AtBuiltin (Seq x y)) c → Tight b m number p r c k
-    go (r_builtin w t (r_seq l n)) = tight_then (length (rev (as_line (decimal x)))) p (at_builtin (b_print (as_line (decimal x)) (b_seq (suc x) y))) k (λ s. rw (less_yes x y z)) (u h.has.live2) (omega (arith, rev_length (as_line (decimal x))))
+    go (r_builtin w t (r_seq l n)) = tight_then (length (rev (as_line (decimal x)))) p (at_builtin (b_print (as_line (decimal x)) (b_seq (suc x) y))) k (λ s. rw (le-leb x y z)) (u h.has.live2) (omega (arith, rev_length (as_line (decimal x))))
 
 pub yes_on : {text code : List ℕ} {number : ℕ → ℕ} {live : List Bool} {m m' : List (List ℕ)} {p : Process'} {r : Rest} {c : Control} {k : List Frame} → p.control ≡ AtBuiltin Yes → m' ≡ set m (p.base + 2) (get_or m (p.base + 2) [] ++ get_or m (p.base + 3) []) → Rep text code number live m p r c k → After text code number live m m' p r c k (going p (AtPrint Yes))
 yes_on {text} {code} {number} {live} {m} {m'} {p} {r} {k = k} e u h = go (rw e at h.control)

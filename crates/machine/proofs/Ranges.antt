@@ -7,10 +7,10 @@ use Rattle.meaning.specs.System.{QuotedByte, b_seq, Process, System}
 use Rattle.meaning.specs.Words.{number, bytes_of}
 use Rattle.meaning.specs.Step.{completes, start_builtin, start_seq}
 use Rattle.machine.specs.declared.arguments.Range.{Range}
-use Rattle.machine.specs.Encoding.{encoded, marked, plain, Small, AllSmall, word_length}
+use Rattle.words.specs.Encoding.{encoded, marked, plain, Small, AllSmall, word_length}
 use Rattle.machine.specs.Arguments.{maybe, number_of}
 use Rattle.machine.specs.Ranges.{seq_range}
-use Rattle.machine.proofs.Texts.{encoded_length, word_is, tail_is}
+use Rattle.words.proofs.Texts.{encoded_length, word_is, tail_is}
 use Rattle.machine.proofs.Numbers.{some_number, no_number, lows_encoded}
 
 pub range_empty : (A : List ℕ) (es : List (List QuotedByte)) → length A ≡ 0 → A ≡ marked es → None ≡ seq_range es
@@ -70,19 +70,19 @@ range_wrong A (x ∷ y ∷ z ∷ es) n j a k s e h l g o q = refl
 
 -- and what seq does with them
 pub seq_starts : (es : List (List QuotedByte)) (x : Range) → Some x ≡ seq_range es → (s : System) (w : Process) → start_seq s w (plain es) ≡ start_builtin s w (b_seq x.from x.to)
-seq_starts [] x h s w = let z : ◌≡◌ {A = ℕ} 0 1 = cc in absurd (omega arith)
+seq_starts [] x h s w = absurd (cc)
 seq_starts (e ∷ []) x h s w = by (number (bytes_of e)) h
   where
     by : (o : Option ℕ) → Some x ≡ opt o None (λ n. Some (record { from = 1; to = n })) → opt o (completes s w 2) (λ n. start_builtin s w (b_seq 1 n)) ≡ start_builtin s w (b_seq x.from x.to)
-    by none g = let z : ◌≡◌ {A = ℕ} 0 1 = cc in absurd (omega arith)
+    by none g = absurd (cc)
     by (some n) g = let z : x ≡ record { from = 1; to = n } = cc in rw z
 seq_starts (e ∷ f ∷ []) x h s w = by (number (bytes_of e)) (number (bytes_of f)) h
   where
     by : (o q : Option ℕ) → Some x ≡ opt o None (λ m. opt q None (λ n. Some (record { from = m; to = n }))) → opt o (completes s w 2) (λ m. opt q (completes s w 2) (λ n. start_builtin s w (b_seq m n))) ≡ start_builtin s w (b_seq x.from x.to)
-    by none q g = let z : ◌≡◌ {A = ℕ} 0 1 = cc in absurd (omega arith)
-    by (some m) none g = let z : ◌≡◌ {A = ℕ} 0 1 = cc in absurd (omega arith)
+    by none q g = absurd (cc)
+    by (some m) none g = absurd (cc)
     by (some m) (some n) g = let z : x ≡ record { from = m; to = n } = cc in rw z
-seq_starts (e ∷ f ∷ g ∷ es) x h s w = let z : ◌≡◌ {A = ℕ} 0 1 = cc in absurd (omega arith)
+seq_starts (e ∷ f ∷ g ∷ es) x h s w = absurd (cc)
 
 pub seq_stops : (es : List (List QuotedByte)) → ◌≡◌ {A = Maybe Range} None (seq_range es) → (s : System) (w : Process) → start_seq s w (plain es) ≡ completes s w 2
 seq_stops [] h s w = refl
@@ -90,11 +90,11 @@ seq_stops (e ∷ []) h s w = by (number (bytes_of e)) h
   where
     by : (o : Option ℕ) → ◌≡◌ {A = Maybe Range} None (opt o None (λ n. Some (record { from = 1; to = n }))) → opt o (completes s w 2) (λ n. start_builtin s w (b_seq 1 n)) ≡ completes s w 2
     by none g = refl
-    by (some n) g = let z : ◌≡◌ {A = ℕ} 0 1 = cc in absurd (omega arith)
+    by (some n) g = absurd (cc)
 seq_stops (e ∷ f ∷ []) h s w = by (number (bytes_of e)) (number (bytes_of f)) h
   where
     by : (o q : Option ℕ) → ◌≡◌ {A = Maybe Range} None (opt o None (λ m. opt q None (λ n. Some (record { from = m; to = n })))) → opt o (completes s w 2) (λ m. opt q (completes s w 2) (λ n. start_builtin s w (b_seq m n))) ≡ completes s w 2
     by none q g = refl
     by (some m) none g = refl
-    by (some m) (some n) g = let z : ◌≡◌ {A = ℕ} 0 1 = cc in absurd (omega arith)
+    by (some m) (some n) g = absurd (cc)
 seq_stops (e ∷ f ∷ g ∷ es) h s w = refl

@@ -2,7 +2,7 @@
 use Rattle.std.specs.Prelude.{ℕ, ◌%◌, List, [], ◌∷◌, take, Some, None, Option as Maybe}
 use Rattle.std.proofs.Math.Option.{Option, some, none}
 use Rattle.meaning.specs.Words.{number}
-use Rattle.machine.specs.Encoding.{shown, word_length}
+use Rattle.words.specs.Encoding.{shown, word_length}
 
 -- the bytes of an encoded word
 abbrev pub lows : List ℕ → List ℕ

@@ -1,7 +1,7 @@
-pub mod Encoding
 pub mod Arguments
 pub mod Ranges
 pub mod Commands
+pub mod Frames
 pub mod Decide
 pub mod Represent
 pub mod Promises

@@ -1,46 +1,26 @@
 -- What the machine's functions promise.
-use Rattle.std.specs.Prelude.{◌≡◌, ℕ, zero, suc, ◌+◌, ◌-◌, ◌*◌, ◌<◌, ◌≤◌, Bool, true, false, ◌||◌, ◌⊎◌, List, [], ◌∷◌, ◌++◌, length, take, Some, None, Option as Maybe, ◌==◌, ◌≢◌, nat_lt, slice_index, slice_index_or, slice_set}
+use Rattle.std.specs.Prelude.{◌≡◌, ℕ, ◌+◌, ◌<◌, ◌≤◌, Bool, true, false, ◌||◌, ◌⊎◌, List, [], ◌∷◌, ◌++◌, length, Some, None, Option as Maybe, Ok, Err, Result, ◌≢◌, slice_set}
 use Rattle.std.proofs.Math.Option.{Option, some, none}
 use Rattle.segments.specs.Layout.{need}
-use Rattle.store.specs.Sums.{extent}
-use Rattle.syntax.specs.Base.{pick, nth, Name}
+use Rattle.syntax.specs.Base.{nth, Name}
 use Rattle.syntax.specs.Tree.{parameter, substitution, Word, no_parts, and_part, Words, no_words, Assignments, no_assignments, assign, Redirects, no_redirects, redirect, Command, simple, group, subshell, if, while, for, case, function, Pipeline, piped, AndOr, CommandList, next}
 use Rattle.meaning.specs.System.{QuotedByte, Purpose, Control, at_list, at_pipeline, at_command, at_words, at_redirects, then_invoke, Frame, Process, System, host_paper, with_paper}
 use Rattle.meaning.specs.Words.{close_word}
 use Rattle.meaning.specs.Step.{continues, exits, step}
 use Rattle.meaning.specs.Space.{control_size, frames_size}
 use Rattle.machine.specs.declared.process.Process.{Process as Process'}
-use Rattle.machine.specs.declared.control.Frame.{Frame as Frame'}
+use Rattle.machine.specs.declared.frames.Frame.{Frame as Frame'}
 use Rattle.machine.specs.declared.control.Next.{Next}
 use Rattle.machine.specs.declared.control.Resumed.{Resumed}
 use Rattle.machine.specs.declared.step.Step.{Step}
-use Rattle.machine.specs.declared.step.Step.TheVariants.{Continues, Prints, Exits, NoRoom, PaperFull, Unsupported}
-use Rattle.machine.specs.Encoding.{any_pattern}
+use Rattle.machine.specs.declared.step.Step.TheVariants.{Continues, Prints, Exits}
+use Rattle.machine.specs.declared.halt.Halt.{Halt}
+use Rattle.machine.specs.declared.halt.Halt.TheVariants.{NoRoom, PaperFull, Unsupported}
+use Rattle.words.specs.Encoding.{any_pattern}
+use Rattle.words.specs.Pushed.{Scarce}
 use Rattle.machine.specs.declared.names.BuiltinName.{BuiltinName}
 use Rattle.machine.specs.Commands.{name_at, lacks}
 use Rattle.machine.specs.Represent.{Rest, process, abstract, ControlRep, FrameRep, Kept, Rep}
-
--- the words of a frame, none for the tag 0
-abbrev pub framed : ℕ → ℕ → ℕ → List ℕ
-framed x y zero = []
-framed x y (suc t) = x ∷ y ∷ suc t ∷ []
-
--- the last frame
-abbrev pub top_frame : List ℕ → Maybe Frame'
-top_frame F = pick (nat_lt (length F) 3) None (Some (record { x = slice_index F (length F - 3); y = slice_index F (length F - 2); tag = slice_index F (length F - 1) }))
-
--- the last frame goes (0), or has another tag
-abbrev pub settled : List ℕ → ℕ → List ℕ
-settled F t = pick (t == 0) (take (length F - 3) F) (slice_set F (length F - 1) t)
-
--- half of the words lent are too few for n words in lists
-abbrev pub Scarce : ℕ × List Bool → ℕ → Type 0
-Scarce b n = 7 * b.0 < 24 * n + 64 * extent b.1 + 64
-
--- y is behind list i, or was refused
-pub record Pushed (b : ℕ × List Bool) (i : ℕ) (m m' : List (List ℕ)) (y : List ℕ) (r : Bool) : Type 0 where
-  pub yes : r ≡ true → m' ≡ slice_set m i (slice_index_or m i [] ++ y)
-  pub no : r ≡ false → slice_index_or b.1 i false ≡ true → Scarce b (need m + length y)
 
 -- w takes a step to w' in every system, and leaves the system as it is
 abbrev pub StepsTo : Process → Process → Type 0
@@ -63,9 +43,12 @@ pub record After (text code : List ℕ) (number : ℕ → ℕ) (live : List Bool
   pub kept : Kept p.base m m'
   pub base : p'.base ≡ p.base
 
-abbrev pub Keeps : List ℕ → List ℕ → (ℕ → ℕ) → ℕ → ℕ → ℕ → Option Frame → Type 0
-Keeps text code number x y t none = t ≡ 0
-Keeps text code number x y t (some κ) = (0 < t) × FrameRep text code number x y t κ
+-- a frame of the machine, or none, for one of the meaning, or none
+abbrev pub Keeps : List ℕ → List ℕ → (ℕ → ℕ) → Maybe Frame' → Option Frame → Type 0
+Keeps text code number None none = Unit {0}
+Keeps text code number None (some κ) = ⊥
+Keeps text code number (Some f) none = ⊥
+Keeps text code number (Some f) (some κ) = FrameRep text code number f κ
 
 abbrev pub kept_frame : Option Frame → List Frame → List Frame
 kept_frame none ks = ks
@@ -106,19 +89,19 @@ pub record Grows (text code : List ℕ) (number : ℕ → ℕ) (c : Control) (n 
   pub κ' : Option Frame
   pub steps_to : (r : Rest) (k : List Frame) (i o : ℕ) → StepsTo (process r c k i o n) (process r c' (kept_frame κ' k) i o n)
   pub now : ControlRep text code [] [] [] q.control c'
-  pub keeps : Keeps text code number q.x 0 q.tag κ'
+  pub keeps : Keeps text code number q.frame κ'
 
 abbrev pub Leads : List ℕ → List ℕ → (ℕ → ℕ) → Control → ℕ → Maybe Next → Type 0
 Leads text code number c n None = Beyond c
 Leads text code number c n (Some q) = Grows text code number c n q
 
 -- what the last frame leads to: o is the process that was, the status is set already in p
-pub record Backs (text code : List ℕ) (number : ℕ → ℕ) (x y : ℕ) (c : Control) (κ : Frame) (o p : Process') (q : Resumed) : Type 0 where
+pub record Backs (text code : List ℕ) (number : ℕ → ℕ) (c : Control) (κ : Frame) (o p : Process') (q : Resumed) : Type 0 where
   pub c' : Control
   pub κ' : Option Frame
   pub steps_to : (r : Rest) (ks : List Frame) → StepsTo (abstract number o r c (κ ∷ ks)) (abstract number q.process r c' (kept_frame κ' ks))
   pub now : ControlRep text code [] [] [] q.process.control c'
-  pub keeps : Keeps text code number x y q.tag κ'
+  pub keeps : Keeps text code number q.frame κ'
   pub base : q.process.base ≡ p.base
   pub status : q.process.status ≡ p.status
 
@@ -128,17 +111,15 @@ pub data Tight (b : ℕ × List Bool) (m : List (List ℕ)) (number : ℕ → �
   tight_now : (y : ℕ) → Scarce b (need m + y) → y ≤ size c k + 4 → Tight b m number p r c k
   tight_then : (y : ℕ) (p' : Process') (c' : Control) (k' : List Frame) → StepsTo (abstract number p r c k) (abstract number p' r c' k') → Scarce b (need m + y) → y ≤ size c' k' → Tight b m number p r c k
 
--- a step that prints nothing
-abbrev pub DoesSays : List ℕ → List ℕ → ℕ × List Bool → List (List ℕ) → List (List ℕ) → Process' → (ℕ → ℕ) → Rest → Control → List Frame → Step → Type 0
-DoesSays text code b m m' p number r c k (Continues p') = After text code number b.1 m m' p r c k p'
-DoesSays text code b m m' p number r c k (Prints p' q) = ⊥
-DoesSays text code b m m' p number r c k (Exits n) = Ends (abstract number p r c k) n × (m' ≡ m)
-DoesSays text code b m m' p number r c k NoRoom = Tight b m number p r c k
-DoesSays text code b m m' p number r c k PaperFull = ⊥
-DoesSays text code b m m' p number r c k Unsupported = Beyond c
+-- a step that prints nothing, and after which the process goes on
+abbrev pub DoesSays : List ℕ → List ℕ → ℕ × List Bool → List (List ℕ) → List (List ℕ) → Process' → (ℕ → ℕ) → Rest → Control → List Frame → Result Process' Halt → Type 0
+DoesSays text code b m m' p number r c k (Ok p') = After text code number b.1 m m' p r c k p'
+DoesSays text code b m m' p number r c k (Err NoRoom) = Tight b m number p r c k
+DoesSays text code b m m' p number r c k (Err PaperFull) = ⊥
+DoesSays text code b m m' p number r c k (Err Unsupported) = Beyond c
 
 -- whatever p stands for
-pub record Does (text code : List ℕ) (b : ℕ × List Bool) (m m' : List (List ℕ)) (p : Process') (a : Step) : Type 0 where
+pub record Does (text code : List ℕ) (b : ℕ × List Bool) (m m' : List (List ℕ)) (p : Process') (a : Result Process' Halt) : Type 0 where
   pub says : (number : ℕ → ℕ) (r : Rest) (c : Control) (k : List Frame) → Rep text code number b.1 m p r c k → DoesSays text code b m m' p number r c k a
 
 -- where the output is the paper, w prints this byte and is then w'
@@ -167,14 +148,14 @@ pub record Filled (number : ℕ → ℕ) (o : List ℕ) (place : ℕ) (p : Proce
   pub full : length o ≤ place
 
 -- the output is the paper where it is the handle 1
-abbrev pub StepSays : List ℕ → List ℕ → ℕ × List Bool → List (List ℕ) → List (List ℕ) → List ℕ → List ℕ → ℕ → Process' → (ℕ → ℕ) → Rest → Control → List Frame → Step → Type 0
-StepSays text code b m m' o o' place p number r c k (Continues p') = After text code number b.1 m m' p r c k p' × (o' ≡ o)
-StepSays text code b m m' o o' place p number r c k (Prints p' q) = Printed text code number b.1 m m' o o' place p r c k p' × (q ≡ place + 1)
-StepSays text code b m m' o o' place p number r c k (Exits n) = Ends (abstract number p r c k) n × (m' ≡ m) × (o' ≡ o)
-StepSays text code b m m' o o' place p number r c k NoRoom = Tight b m number p r c k × (o' ≡ o)
-StepSays text code b m m' o o' place p number r c k PaperFull = Filled number o place p r c k × (m' ≡ m) × (o' ≡ o)
-StepSays text code b m m' o o' place p number r c k Unsupported = (Beyond c ⊎ (p.stdout ≢ 1)) × (o' ≡ o)
+abbrev pub StepSays : List ℕ → List ℕ → ℕ × List Bool → List (List ℕ) → List (List ℕ) → List ℕ → List ℕ → ℕ → Process' → (ℕ → ℕ) → Rest → Control → List Frame → Result Step Halt → Type 0
+StepSays text code b m m' o o' place p number r c k (Ok (Continues p')) = After text code number b.1 m m' p r c k p' × (o' ≡ o)
+StepSays text code b m m' o o' place p number r c k (Ok (Prints p' q)) = Printed text code number b.1 m m' o o' place p r c k p' × (q ≡ place + 1)
+StepSays text code b m m' o o' place p number r c k (Ok (Exits n)) = Ends (abstract number p r c k) n × (m' ≡ m) × (o' ≡ o)
+StepSays text code b m m' o o' place p number r c k (Err NoRoom) = Tight b m number p r c k × (o' ≡ o)
+StepSays text code b m m' o o' place p number r c k (Err PaperFull) = Filled number o place p r c k × (m' ≡ m) × (o' ≡ o)
+StepSays text code b m m' o o' place p number r c k (Err Unsupported) = (Beyond c ⊎ (p.stdout ≢ 1)) × (o' ≡ o)
 
 -- one step of whatever p stands for, with a paper of which o holds what was printed before this place
-pub record Stepped (text code : List ℕ) (b : ℕ × List Bool) (m m' : List (List ℕ)) (o o' : List ℕ) (place : ℕ) (p : Process') (a : Step) : Type 0 where
+pub record Stepped (text code : List ℕ) (b : ℕ × List Bool) (m m' : List (List ℕ)) (o o' : List ℕ) (place : ℕ) (p : Process') (a : Result Step Halt) : Type 0 where
   pub says : (number : ℕ → ℕ) (r : Rest) (c : Control) (k : List Frame) → Rep text code number b.1 m p r c k → StepSays text code b m m' o o' place p number r c k a

@@ -1,10 +1,10 @@
 -- How a process stands in a struct and in the lists of a store.
-use Rattle.std.specs.Prelude.{◌≡◌, ℕ, ◌+◌, ◌<◌, ◌≤◌, Bool, true, false, ◌⊎◌, List, [], ◌∷◌, ◌++◌, length, get_or, slice_index_or}
+use Rattle.std.specs.Prelude.{◌≡◌, ℕ, ◌+◌, ◌<◌, ◌≤◌, Bool, true, false, ◌⊎◌, List, [], ◌∷◌, ◌++◌, length, get_or, slice_index_or, Some}
 use Rattle.std.proofs.Math.Option.{Option}
-use Rattle.syntax.specs.Tree.{Word, Words, no_redirects, Command, Pipeline, AndOr, CommandList}
-use Rattle.reader.specs.Layout.{flag}
-use Rattle.reader.specs.Code.{ListCode, AndOrCode, PipelineCode, CommandCode, ElseCode, WordsCode, WordCode}
-use Rattle.meaning.specs.System.{QuotedByte, Variable, Function, Builtin, b_done, b_print, b_seq, b_yes, then_invoke, to_invoke, Unwind, break, continue, return, exit, Control, at_list, at_and_or, at_pipeline, at_command, at_words, at_redirects, at_builtin, at_status, at_unwind, Frame, f_list, f_and_or, f_not, f_if, f_condition, f_body, f_for, f_handles, f_arguments, Process}
+use Rattle.syntax.specs.Tree.{Word, Words, no_redirects, Command, ElsePart, Pipeline, AndOr, CommandList}
+use Rattle.code.specs.Layout.{flag}
+use Rattle.code.specs.Code.{ListCode, AndOrCode, PipelineCode, CommandCode, ElseCode, WordsCode, WordCode}
+use Rattle.meaning.specs.System.{QuotedByte, Variable, Function, Builtin, b_done, b_print, b_seq, b_yes, then_invoke, to_invoke, Unwind, break, continue, return, exit, Control, at_list, at_and_or, at_pipeline, at_command, at_words, at_redirects, at_builtin, at_status, at_unwind, Frame, f_list, f_and_or, f_not, f_if, f_condition, f_body, f_handles, Process}
 use Rattle.meaning.specs.Words.{close_word}
 use Rattle.machine.specs.declared.process.Builtin.{Builtin as Builtin'}
 use Rattle.machine.specs.declared.process.Builtin.TheVariants.{Done, Seq, Yes}
@@ -12,8 +12,12 @@ use Rattle.machine.specs.declared.process.Unwind.{Unwind as Unwind'}
 use Rattle.machine.specs.declared.process.Unwind.TheVariants.{Break, Continue, Return, Exit}
 use Rattle.machine.specs.declared.process.Control.{Control as Control'}
 use Rattle.machine.specs.declared.process.Control.TheVariants.{AtList, AtAndOr, AtPipeline, AtCommand, AtWords, AtInvoke, AtPrint, AtBuiltin, AtStatus, AtUnwind}
+use Rattle.machine.specs.declared.process.Expansion.{Expansion}
 use Rattle.machine.specs.declared.process.Process.{Process as Process'}
-use Rattle.machine.specs.Encoding.{at, marked, plain, Bytes, AllSmall, opened, rev}
+use Rattle.machine.specs.declared.frames.Frame.{Frame as Frame'}
+use Rattle.machine.specs.declared.frames.Frame.TheVariants.{List as FList, Handles, AndOr as AndOr', Not, If, Condition, Body}
+use Rattle.machine.specs.Frames.{frame_of}
+use Rattle.words.specs.Encoding.{at, marked, plain, Bytes, AllSmall, opened, rev}
 
 -- what of a process no step here changes
 pub record Rest : Type 0 where
@@ -66,30 +70,29 @@ pub data BuiltinRep (L : List ℕ) : Builtin' → Builtin → Type 0 where
 pub data ControlRep (text code W T L : List ℕ) : Control' → Control → Type 0 where
   r_list : {a : ℕ} {l : CommandList} → W ≡ [] → T ≡ [] → L ≡ [] → ListCode text code a l → ControlRep text code W T L (AtList a) (at_list l)
   r_and_or : {a : ℕ} {x : AndOr} → W ≡ [] → T ≡ [] → L ≡ [] → AndOrCode text code a x → ControlRep text code W T L (AtAndOr a) (at_and_or x)
-  r_pipeline : {a f : ℕ} {n : Bool} {x : Pipeline} → W ≡ [] → T ≡ [] → L ≡ [] → f ≡ flag n → PipelineCode text code a x → ControlRep text code W T L (AtPipeline a f) (at_pipeline n x)
+  r_pipeline : {a : ℕ} {n : Bool} {x : Pipeline} → W ≡ [] → T ≡ [] → L ≡ [] → PipelineCode text code a x → ControlRep text code W T L (AtPipeline a n) (at_pipeline n x)
   r_command : {a : ℕ} {x : Command} → W ≡ [] → T ≡ [] → L ≡ [] → CommandCode text code a x → ControlRep text code W T L (AtCommand a) (at_command x)
-  r_words : {a b : ℕ} {h sp : Bool} {ws : Words} {v : Word} {o : Option (List QuotedByte)} {ds : List (List QuotedByte)} → W ≡ marked (close_word o ds) → T ≡ [] → L ≡ [] → h ≡ opened o → AllSmall (close_word o ds) → WordsCode text code a ws → WordCode text code b v → ControlRep text code W T L (AtWords a b h) (at_words (record { words = ws; parts = v; current = o; complete = ds; split = sp }) (to_invoke no_redirects))
+  r_words : {x : Expansion} {sp : Bool} {ws : Words} {v : Word} {o : Option (List QuotedByte)} {ds : List (List QuotedByte)} → W ≡ marked (close_word o ds) → T ≡ [] → L ≡ [] → x.opened ≡ opened o → AllSmall (close_word o ds) → WordsCode text code x.words ws → WordCode text code x.parts v → ControlRep text code W T L (AtWords x) (at_words (record { words = ws; parts = v; current = o; complete = ds; split = sp }) (to_invoke no_redirects))
   r_invoke : (ds : List (List QuotedByte)) → W ≡ marked ds → T ≡ [] → L ≡ [] → AllSmall ds → ControlRep text code W T L AtInvoke (at_redirects no_redirects (then_invoke (plain ds)))
   r_print : {v : Builtin'} {u : Builtin} (bs : List ℕ) → W ≡ [] → T ≡ rev bs → Bytes bs → BuiltinRep L v u → ControlRep text code W T L (AtPrint v) (at_builtin (b_print bs u))
   r_builtin : {v : Builtin'} {u : Builtin} → W ≡ [] → T ≡ [] → BuiltinRep L v u → ControlRep text code W T L (AtBuiltin v) (at_builtin u)
   r_status : {n : ℕ} → W ≡ [] → T ≡ [] → L ≡ [] → n < 256 → ControlRep text code W T L (AtStatus n) (at_status n)
   r_unwind : {t : Unwind'} {n : ℕ} → W ≡ [] → T ≡ [] → L ≡ [] → n < 256 → ControlRep text code W T L (AtUnwind t n) (at_unwind (unwind_is t) n)
 
--- a frame: three words, the last its tag. `number` gives the number that a handle of the machine has in the system
-abbrev pub FrameRep : List ℕ → List ℕ → (ℕ → ℕ) → ℕ → ℕ → ℕ → Frame → Type 0
-FrameRep text code number x y t (f_list l) = (t ≡ 1) × ListCode text code x l
-FrameRep text code number x y t (f_handles i o) = (t ≡ 2) × (number x ≡ i) × (number y ≡ o)
-FrameRep text code number x y t (f_and_or b n p) = (t ≡ 3) × (at code (x + 1) ≡ flag b) × (at code (x + 2) ≡ flag n) × PipelineCode text code (at code (x + 3)) p
-FrameRep text code number x y t f_not = t ≡ 4
-FrameRep text code number x y t (f_if a e) = (t ≡ 5) × ListCode text code (at code (x + 3)) a × ElseCode text code (at code (x + 4)) e
-FrameRep text code number x y t (f_condition a b) = (t ≡ 6) × ListCode text code (at code (x + 2)) a × ListCode text code (at code (x + 3)) b
-FrameRep text code number x y t (f_body a b) = (t ≡ 7) × ListCode text code (at code (x + 2)) a × ListCode text code (at code (x + 3)) b
-FrameRep text code number x y t (f_for z as₁ l) = ⊥
-FrameRep text code number x y t (f_arguments as₁) = ⊥
+-- a frame of the machine for one of the meaning. `number` gives the number that a handle of the machine has in the system
+pub data FrameRep (text code : List ℕ) (number : ℕ → ℕ) : Frame' → Frame → Type 0 where
+  r_f_list : {x : ℕ} {l : CommandList} → ListCode text code x l → FrameRep text code number (FList x) (f_list l)
+  r_f_handles : (i o : ℕ) → FrameRep text code number (Handles i o) (f_handles (number i) (number o))
+  r_f_and_or : {x : ℕ} {b n : Bool} {p : Pipeline} → at code (x + 1) ≡ flag b → at code (x + 2) ≡ flag n → PipelineCode text code (at code (x + 3)) p → FrameRep text code number (AndOr' x) (f_and_or b n p)
+  r_f_not : FrameRep text code number Not f_not
+  r_f_if : {x : ℕ} {a : CommandList} {e : ElsePart} → ListCode text code (at code (x + 3)) a → ElseCode text code (at code (x + 4)) e → FrameRep text code number (If x) (f_if a e)
+  r_f_condition : {x : ℕ} {a b : CommandList} → ListCode text code (at code (x + 2)) a → ListCode text code (at code (x + 3)) b → FrameRep text code number (Condition x) (f_condition a b)
+  r_f_body : {x : ℕ} {a b : CommandList} → ListCode text code (at code (x + 2)) a → ListCode text code (at code (x + 3)) b → FrameRep text code number (Body x) (f_body a b)
 
+-- frames, each in three words, the last of which is its tag
 abbrev pub FramesRep : List ℕ → List ℕ → (ℕ → ℕ) → List ℕ → List Frame → Type 0
 FramesRep text code number F [] = F ≡ []
-FramesRep text code number F (κ ∷ ks) = (G : List ℕ) × (x : ℕ) × (y : ℕ) × (t : ℕ) × (F ≡ G ++ (x ∷ y ∷ t ∷ [])) × FrameRep text code number x y t κ × FramesRep text code number G ks
+FramesRep text code number F (κ ∷ ks) = (G : List ℕ) × (x : ℕ) × (y : ℕ) × (t : ℕ) × (f : Frame') × (F ≡ G ++ (x ∷ y ∷ t ∷ [])) × (frame_of x y t ≡ Some f) × FrameRep text code number f κ × FramesRep text code number G ks
 
 -- p, with the lists m of which those in `live` are in use, stands for the process with this rest, control and frames
 pub record Rep (text code : List ℕ) (number : ℕ → ℕ) (live : List Bool) (m : List (List ℕ)) (p : Process') (r : Rest) (c : Control) (k : List Frame) : Type 0 where

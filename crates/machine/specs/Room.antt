@@ -4,7 +4,8 @@ use Rattle.store.specs.Sums.{extent}
 use Rattle.meaning.specs.System.{Control, Frame}
 use Rattle.machine.specs.declared.process.Process.{Process as Process'}
 use Rattle.machine.specs.Represent.{Rest, Rep}
-use Rattle.machine.specs.Promises.{size, Scarce}
+use Rattle.words.specs.Pushed.{Scarce}
+use Rattle.machine.specs.Promises.{size}
 
 abbrev pub own : List (List ℕ) → ℕ → ℕ
 own m b = (length (slice_index_or m b []) + length (slice_index_or m (b + 1) [])) + (length (slice_index_or m (b + 2) []) + length (slice_index_or m (b + 3) []))

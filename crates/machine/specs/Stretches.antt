@@ -1,18 +1,17 @@
 -- Steps of one process in a row, as moves of a system.
-use Rattle.std.specs.Prelude.{◌≡◌, ℕ, ◌+◌, ◌<◌, ◌≤◌, Bool, ◌⊎◌, List, length, take, drop, replicate, ◌≢◌}
+use Rattle.std.specs.Prelude.{◌≡◌, ℕ, ◌+◌, ◌<◌, ◌≤◌, Bool, ◌⊎◌, List, length, take, drop, replicate, ◌≢◌, Ok, Err, Result}
 use Rattle.std.proofs.Math.Option.{some}
 use Rattle.syntax.specs.Base.{nth}
 use Rattle.meaning.specs.System.{Control, Frame, Process, System, host_paper, with_processes, with_paper, find_process, replace}
 use Rattle.meaning.specs.Step.{moves, exits, settle}
 use Rattle.machine.specs.declared.process.Process.{Process as Process'}
 use Rattle.machine.specs.declared.stretch.Ending.{Ending}
-use Rattle.machine.specs.declared.stretch.Ending.TheVariants.{Spent, Exited as Exited', NoRoom, PaperFull, Unsupported}
+use Rattle.machine.specs.declared.stretch.Ending.TheVariants.{Spent, Exited as Exited'}
+use Rattle.machine.specs.declared.halt.Halt.{Halt}
+use Rattle.machine.specs.declared.halt.Halt.TheVariants.{NoRoom, PaperFull, Unsupported}
 use Rattle.machine.specs.declared.stretch.Stretch.{Stretch}
 use Rattle.machine.specs.Represent.{Rest, abstract, Kept, Rep}
 use Rattle.machine.specs.Promises.{Beyond, Ends, Tight, Filled}
-
-abbrev pub ending_at : Process' → ℕ → ℕ → Ending → Stretch
-ending_at p place n e = record { process = p; place = place; moves = n; ending = e }
 
 -- the system in which this process is w now, and this is on the paper
 abbrev pub with_process : System → Process → List ℕ → System
@@ -39,12 +38,12 @@ pub record Stands (number : ℕ → ℕ) (o : List ℕ) (place : ℕ) (p : Proce
   pub printed : s.paper ≡ take place o
   pub within : place ≤ length o
 
-abbrev pub EndSays : List ℕ → List ℕ → ℕ × List Bool → List (List ℕ) → List (List ℕ) → List ℕ → List ℕ → ℕ → Process' → ℕ → (ℕ → ℕ) → Rest → System → Process' → ℕ → ℕ → Ending → Type 0
-EndSays text code b m m' o o' place p most number r s p' place' made Spent = Reached text code number b.1 m m' o o' place' p p' r s made × (made ≡ most)
-EndSays text code b m m' o o' place p most number r s p' place' made (Exited' n) = (j : ℕ) × (z : Reached text code number b.1 m m' o o' place' p p' r s j) × (made ≡ j + 1) × (made ≤ most) × Ends (abstract number p' r z.c z.k) n × (moves s (replicate made r.pid) ≡ some (settle (abstract number p' r z.c z.k) (exits n (with_process s (abstract number p' r z.c z.k) (take place' o')))))
-EndSays text code b m m' o o' place p most number r s p' place' made NoRoom = (m₁ : List (List ℕ)) × (z : Reached text code number b.1 m m₁ o o' place' p p' r s made) × (made < most) × Tight b m₁ number p' r z.c z.k
-EndSays text code b m m' o o' place p most number r s p' place' made PaperFull = (z : Reached text code number b.1 m m' o o' place' p p' r s made) × (made < most) × Filled number o' place' p' r z.c z.k
-EndSays text code b m m' o o' place p most number r s p' place' made Unsupported = (m₁ : List (List ℕ)) × (z : Reached text code number b.1 m m₁ o o' place' p p' r s made) × (made < most) × (Beyond z.c ⊎ (p'.stdout ≢ 1))
+abbrev pub EndSays : List ℕ → List ℕ → ℕ × List Bool → List (List ℕ) → List (List ℕ) → List ℕ → List ℕ → ℕ → Process' → ℕ → (ℕ → ℕ) → Rest → System → Process' → ℕ → ℕ → Result Ending Halt → Type 0
+EndSays text code b m m' o o' place p most number r s p' place' made (Ok Spent) = Reached text code number b.1 m m' o o' place' p p' r s made × (made ≡ most)
+EndSays text code b m m' o o' place p most number r s p' place' made (Ok (Exited' n)) = (j : ℕ) × (z : Reached text code number b.1 m m' o o' place' p p' r s j) × (made ≡ j + 1) × (made ≤ most) × Ends (abstract number p' r z.c z.k) n × (moves s (replicate made r.pid) ≡ some (settle (abstract number p' r z.c z.k) (exits n (with_process s (abstract number p' r z.c z.k) (take place' o')))))
+EndSays text code b m m' o o' place p most number r s p' place' made (Err NoRoom) = (m₁ : List (List ℕ)) × (z : Reached text code number b.1 m m₁ o o' place' p p' r s made) × (made < most) × Tight b m₁ number p' r z.c z.k
+EndSays text code b m m' o o' place p most number r s p' place' made (Err PaperFull) = (z : Reached text code number b.1 m m' o o' place' p p' r s made) × (made < most) × Filled number o' place' p' r z.c z.k
+EndSays text code b m m' o o' place p most number r s p' place' made (Err Unsupported) = (m₁ : List (List ℕ)) × (z : Reached text code number b.1 m m₁ o o' place' p p' r s made) × (made < most) × (Beyond z.c ⊎ (p'.stdout ≢ 1))
 
 -- in whatever system the process stands
 pub record Stretched (text code : List ℕ) (b : ℕ × List Bool) (m m' : List (List ℕ)) (o o' : List ℕ) (place : ℕ) (p : Process') (most : ℕ) (a : Stretch) : Type 0 where

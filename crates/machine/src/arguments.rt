@@ -1,74 +1,62 @@
-// What commands read off their arguments.
+//! What commands read off their arguments.
 ghost use Rattle.std.specs.Prelude.{◌≡◌, ℕ, ◌+◌, ◌-◌, ◌*◌, ◌<◌, ◌≤◌, List, length, IfSome};
 ghost use Rattle.meaning.specs.System.{QuotedByte};
-ghost use Rattle.machine.specs.Encoding.{marked, AllSmall};
+ghost use Rattle.words.specs.Encoding.{marked, AllSmall};
 ghost use Rattle.machine.specs.Arguments.{number_of, exit_number};
 ghost use Rattle.machine.specs.Ranges.{seq_range};
 
-use crate::words::word_len;
+use crate::expansion::word_len;
 
 // A number has at most so many digits.
 const MOST_DIGITS: usize = 9;
 
-const ZERO: u32 = 48;
-
-const NINE: u32 = 57;
-
-// An encoded word as a number: 1 to 9 digits.
+/// An encoded word as a number: 1 to 9 digits.
 pub fn number(word: &[u32]) -> Option<u32>
     ensures small { IfSome result (λ n. n < 1000000000) }
     ensures is { result ≡ number_of word.now }
 {
-    if word.len() == 0 {
-        return None;
-    }
-    if word.len() > MOST_DIGITS {
+    if word.is_empty() || word.len() > MOST_DIGITS {
         return None;
     }
     let mut n = 0;
     for w in word {
-        let c = *w % 256;
-        if c < ZERO {
+        let c = (*w % 256) as u8;
+        if !c.is_ascii_digit() {
             return None;
         }
-        if c > NINE {
-            return None;
-        }
-        n = n * 10 + (c - ZERO);
+        n = n * 10 + u32::from(c - b'0');
     }
     Some(n)
 }
 
-// The number that exit is given, or else the last status.
+/// The number that exit is given, or else the last status.
 pub fn exit_number(arguments: &[u32], status: u32) -> Option<u32>
     ensures { result ≡ exit_number arguments.now status }
 {
-    if arguments.len() == 0 {
+    if arguments.is_empty() {
         return Some(status);
     }
-    let end = 1 + word_len(&arguments[1..]);
-    number(&arguments[1..end])
+    let words = &arguments[1..];
+    number(&words[..word_len(words)])
 }
 
-// From where to where seq counts.
+/// From where to where seq counts.
 #[derive(Clone, Copy)]
 pub struct Range {
     pub from: u32,
     pub to: u32,
 }
 
-// seq n counts from 1, seq a b from a; any other number of arguments is wrong.
+/// seq n counts from 1, seq a b from a; any other number of arguments is wrong.
 pub fn seq_range(arguments: &[u32]) -> Option<Range>
     ensures small { IfSome result (λ x. x.to < 1000000000) }
     ensures is { (es : List (List QuotedByte)) → AllSmall es → arguments.now ≡ marked es → result ≡ seq_range es }
 {
-    if arguments.len() == 0 {
+    if arguments.is_empty() {
         return None;
     }
     let end = 1 + word_len(&arguments[1..]);
-    let Some(a) = number(&arguments[1..end]) else {
-        return None;
-    };
+    let a = number(&arguments[1..end])?;
     if end >= arguments.len() {
         return Some(Range { from: 1, to: a });
     }
@@ -76,8 +64,6 @@ pub fn seq_range(arguments: &[u32]) -> Option<Range>
     if word_len(rest) < rest.len() {
         return None;
     }
-    let Some(b) = number(rest) else {
-        return None;
-    };
+    let b = number(rest)?;
     Some(Range { from: a, to: b })
 }

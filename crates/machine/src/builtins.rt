@@ -1,29 +1,33 @@
-// Builtin commands: how they begin, and what they do between prints.
-ghost use Rattle.std.specs.Prelude.{◌≡◌, ℕ, ◌+◌, ◌-◌, ◌*◌, ◌%◌, ◌<◌, ◌≤◌, ◌≢◌, List, [], ◌∷◌, ◌++◌, length, take, drop, nat_le, slice_index_or};
+//! Builtin commands: how they begin, and what they do between prints.
+ghost use Rattle.std.specs.Prelude.{◌≡◌, ℕ, ◌+◌, ◌-◌, ◌*◌, ◌%◌, ◌<◌, ◌≤◌, List, [], ◌∷◌, ◌++◌, length, take, drop, nat_le, slice_index_or};
 ghost use Rattle.syntax.specs.Base.{pick};
-ghost use Rattle.store.specs.Held.{model, bounds, Held};
-ghost use Rattle.machine.specs.Encoding.{shown, rev, second};
+ghost use Rattle.store.specs.Held.{model, bounds};
+ghost use Rattle.words.specs.Encoding.{shown, rev};
+ghost use Rattle.words.specs.Pushed.{Pushed};
 ghost use Rattle.machine.specs.Arguments.{chosen};
-ghost use Rattle.machine.specs.Commands.{name_of, at_once};
-ghost use Rattle.machine.specs.Promises.{Pushed, Does};
+ghost use Rattle.machine.specs.Commands.{at_once, Invoked, IsPlain};
+ghost use Rattle.machine.specs.Promises.{Does};
 
 use crate::arguments::{exit_number, seq_range};
-use crate::frames::extend;
+use crate::expansion::word_len;
+use crate::halt::Halt;
 use crate::names::{BuiltinName, builtin_name};
-use crate::process::{Builtin, Control, LINE, Process, TEXT, Unwind, WORDS};
-use crate::step::Step;
-use crate::words::{MARK, word_len};
-use store::Store;
+use crate::process::{Builtin, Control, Process, Unwind};
+use store::{Refusal, Store};
+use words::{MARK, extend};
 
-const BLANK: u32 = 32;
+const BLANK: u32 = b' ' as u32;
 
-const LETTER_Y: u32 = 121;
+const LETTER_Y: u32 = b'y' as u32;
 
-pub const NEWLINE: u32 = 10;
+pub const NEWLINE: u32 = b'\n' as u32;
+
 // The status of a command whose words are wrong.
 const USAGE: u32 = 2;
+
 // Statuses are below this number.
 const STATUSES: u32 = 256;
+
 // The status of a command that is none.
 const NOT_FOUND: u32 = 127;
 
@@ -35,102 +39,70 @@ fn shown_byte(w: u32) -> u32
 }
 
 // The words from low up to high of one list, as text, behind another, the last first; or a refusal.
-fn push_reversed(st: &mut Store, from: usize, to: usize, low: usize, high: usize) -> bool
-    requires from_lt_to { from < to }
-    requires low_le_high { low ≤ high }
-    requires high_in_bounds { high ≤ length (slice_index_or (model st.old) from []) }
-    requires held_2 { Held st.old }
-    ensures held { Held st.new }
+fn push_reversed(
+    st: &mut Store,
+    from: usize,
+    to: usize,
+    low: usize,
+    high: usize,
+) -> Result<(), Refusal>
+    requires lists { from < to }
+    requires order { low ≤ high }
+    requires in_bounds { high ≤ length (slice_index_or (model st.old) from []) }
     ensures same { bounds st.new ≡ bounds st.old }
     ensures says { Pushed (bounds st.old) to (model st.old) (model st.new) (rev (shown (drop low (take high (slice_index_or (model st.old) from []))))) result }
 {
-    let mut j = high;
-    while j > low {
-        let w = st.get(from, j - 1);
-        if !extend(st, to, &[shown_byte(w)]) {
-            return false;
-        }
-        j -= 1;
+    for j in (low..high).rev() {
+        let w = st.get(from, j);
+        extend(st, to, &[shown_byte(w)])?;
     }
-    true
+    Ok(())
 }
 
 // The words from low up to high of one list as a line behind another, reversed; or a refusal.
-fn push_line(st: &mut Store, from: usize, to: usize, low: usize, high: usize) -> bool
-    requires from_lt_to { from < to }
-    requires low_le_high { low ≤ high }
-    requires high_in_bounds { high ≤ length (slice_index_or (model st.old) from []) }
-    requires held_2 { Held st.old }
-    ensures held { Held st.new }
+fn push_line(st: &mut Store, from: usize, to: usize, low: usize, high: usize) -> Result<(), Refusal>
+    requires lists { from < to }
+    requires order { low ≤ high }
+    requires in_bounds { high ≤ length (slice_index_or (model st.old) from []) }
     ensures same { bounds st.new ≡ bounds st.old }
     ensures says { Pushed (bounds st.old) to (model st.old) (model st.new) (rev (shown (drop low (take high (slice_index_or (model st.old) from []))) ++ (10 ∷ []))) result }
 {
-    if !extend(st, to, &[NEWLINE]) {
-        return false;
-    }
+    extend(st, to, &[NEWLINE])?;
     push_reversed(st, from, to, low, high)
 }
 
 // echo prints its arguments with blanks between them; the first stands behind the mark at `first`.
-fn start_echo(st: &mut Store, process: Process, first: usize) -> Step
-    requires control_value { process.control ≡ Control.AtInvoke }
-    requires base_nonzero { length (slice_index_or (model st.old) (process.base + 1) []) ≢ 0 }
-    requires base_value { name_of (drop 1 (slice_index_or (model st.old) (process.base + 1) [])) ≡ BuiltinName.Echo }
-    requires first_value { first ≡ second (slice_index_or (model st.old) (process.base + 1) []) }
-    requires held_2 { Held st.old }
-    ensures held { Held st.new }
+fn start_echo(st: &mut Store, process: Process, first: usize) -> Result<Process, Halt>
+    requires invoked { Invoked (model st.old) process BuiltinName.Echo first }
     ensures same { bounds st.new ≡ bounds st.old }
     ensures says { (text code : List ℕ) → Does text code (bounds st.old) (model st.old) (model st.new) process result }
 {
-    let list = process.base as usize + WORDS;
+    let list = process.words();
     let len = st.len(list);
-    if !push_line(
-        st,
-        list,
-        process.base as usize + TEXT,
-        first.saturating_add(1).min(len),
-        len,
-    ) {
-        return Step::NoRoom;
-    }
+    let low = first.saturating_add(1).min(len);
+    push_line(st, list, process.text(), low, len)?;
     st.clear(list);
-    Step::Continues(Process {
-        control: Control::AtPrint(Builtin::Done(0)),
-        ..process
-    })
+    Ok(process.goes_to(Control::AtPrint(Builtin::Done(0))))
 }
 
 // exit leaves with the number that it is given, modulo 256, or with the last status; status 2 if that is no number.
-fn start_exit(st: &mut Store, process: Process, first: usize) -> Step
-    requires control_value { process.control ≡ Control.AtInvoke }
-    requires base_nonzero { length (slice_index_or (model st.old) (process.base + 1) []) ≢ 0 }
-    requires base_value { name_of (drop 1 (slice_index_or (model st.old) (process.base + 1) [])) ≡ BuiltinName.Exit }
-    requires first_value { (first ≡ second (slice_index_or (model st.old) (process.base + 1) [])) × (first ≤ length (slice_index_or (model st.old) (process.base + 1) [])) }
-    requires held_2 { Held st.old }
-    ensures held { Held st.new }
+fn start_exit(st: &mut Store, process: Process, first: usize) -> Process
+    requires invoked { Invoked (model st.old) process BuiltinName.Exit first }
     ensures same { bounds st.new ≡ bounds st.old }
-    ensures says { (text code : List ℕ) → Does text code (bounds st.old) (model st.old) (model st.new) process result }
+    ensures says { (text code : List ℕ) → Does text code (bounds st.old) (model st.old) (model st.new) process (Ok result) }
 {
-    let list = process.base as usize + WORDS;
-    let number = exit_number(&st.words(list)[first..], process.status);
+    let list = process.words();
+    let number = exit_number(st.words_from(list, first), process.status);
     st.clear(list);
     let Some(n) = number else {
-        return Step::Continues(Process {
-            control: Control::AtStatus(USAGE),
-            ..process
-        });
+        return process.goes_to(Control::AtStatus(USAGE));
     };
-    Step::Continues(Process {
-        control: Control::AtUnwind(Unwind::Exit, n % STATUSES),
-        ..process
-    })
+    process.goes_to(Control::AtUnwind(Unwind::Exit, n % STATUSES))
 }
 
 // What yes prints, its first argument or y, as a line behind list `to`, reversed; or a refusal.
-fn push_choice(st: &mut Store, from: usize, to: usize, first: usize) -> bool
-    requires from_lt_to { from < to }
-    requires held_2 { Held st.old }
-    ensures held { Held st.new }
+fn push_choice(st: &mut Store, from: usize, to: usize, first: usize) -> Result<(), Refusal>
+    requires lists { from < to }
     ensures same { bounds st.new ≡ bounds st.old }
     ensures says { Pushed (bounds st.old) to (model st.old) (model st.new) (rev (chosen (drop first (slice_index_or (model st.old) from [])) ++ (10 ∷ []))) result }
 {
@@ -138,56 +110,35 @@ fn push_choice(st: &mut Store, from: usize, to: usize, first: usize) -> bool
         return extend(st, to, &[NEWLINE, LETTER_Y]);
     }
     let low = first + 1;
-    let len = word_len(&st.words(from)[low..]);
+    let len = word_len(st.words_from(from, low));
     push_line(st, from, to, low, low + len)
 }
 
 // yes prints one line for ever.
-fn start_yes(st: &mut Store, process: Process, first: usize) -> Step
-    requires control_value { process.control ≡ Control.AtInvoke }
-    requires base_nonzero { length (slice_index_or (model st.old) (process.base + 1) []) ≢ 0 }
-    requires base_value { name_of (drop 1 (slice_index_or (model st.old) (process.base + 1) [])) ≡ BuiltinName.Yes }
-    requires first_value { first ≡ second (slice_index_or (model st.old) (process.base + 1) []) }
-    requires held_2 { Held st.old }
-    ensures held { Held st.new }
+fn start_yes(st: &mut Store, process: Process, first: usize) -> Result<Process, Halt>
+    requires invoked { Invoked (model st.old) process BuiltinName.Yes first }
     ensures same { bounds st.new ≡ bounds st.old }
     ensures says { (text code : List ℕ) → Does text code (bounds st.old) (model st.old) (model st.new) process result }
 {
-    let list = process.base as usize + WORDS;
-    if !push_choice(st, list, process.base as usize + LINE, first) {
-        return Step::NoRoom;
-    }
+    let list = process.words();
+    push_choice(st, list, process.line(), first)?;
     st.clear(list);
-    Step::Continues(Process {
-        control: Control::AtBuiltin(Builtin::Yes),
-        ..process
-    })
+    Ok(process.goes_to(Control::AtBuiltin(Builtin::Yes)))
 }
 
 // seq counts; status 2 if its arguments are wrong.
-fn start_seq(st: &mut Store, process: Process, first: usize) -> Step
-    requires control_value { process.control ≡ Control.AtInvoke }
-    requires base_nonzero { length (slice_index_or (model st.old) (process.base + 1) []) ≢ 0 }
-    requires base_value { name_of (drop 1 (slice_index_or (model st.old) (process.base + 1) [])) ≡ BuiltinName.Seq }
-    requires first_value { (first ≡ second (slice_index_or (model st.old) (process.base + 1) [])) × (first ≤ length (slice_index_or (model st.old) (process.base + 1) [])) }
-    requires held_2 { Held st.old }
-    ensures held { Held st.new }
+fn start_seq(st: &mut Store, process: Process, first: usize) -> Process
+    requires invoked { Invoked (model st.old) process BuiltinName.Seq first }
     ensures same { bounds st.new ≡ bounds st.old }
-    ensures says { (text code : List ℕ) → Does text code (bounds st.old) (model st.old) (model st.new) process result }
+    ensures says { (text code : List ℕ) → Does text code (bounds st.old) (model st.old) (model st.new) process (Ok result) }
 {
-    let list = process.base as usize + WORDS;
-    let range = seq_range(&st.words(list)[first..]);
+    let list = process.words();
+    let range = seq_range(st.words_from(list, first));
     st.clear(list);
-    let Some(r) = range else {
-        return Step::Continues(Process {
-            control: Control::AtStatus(USAGE),
-            ..process
-        });
+    let Some(range) = range else {
+        return process.goes_to(Control::AtStatus(USAGE));
     };
-    Step::Continues(Process {
-        control: Control::AtBuiltin(Builtin::Seq(r.from, r.to)),
-        ..process
-    })
+    process.goes_to(Control::AtBuiltin(Builtin::Seq(range.from, range.to)))
 }
 
 // The control to which a command leads at once.
@@ -205,45 +156,42 @@ fn at_once(name: BuiltinName) -> Option<Control>
 }
 
 // A command that leads to another control at once, if the machine has it.
-fn start_at_once(st: &mut Store, process: Process, name: BuiltinName) -> Step
-    requires control_value { process.control ≡ Control.AtInvoke }
-    requires base_nonzero { length (slice_index_or (model st.old) (process.base + 1) []) ≢ 0 }
-    requires name_value { name ≡ name_of (drop 1 (slice_index_or (model st.old) (process.base + 1) [])) }
-    requires fact { ((name ≡ BuiltinName.Echo → ⊥)) × (((name ≡ BuiltinName.Exit → ⊥)) × (((name ≡ BuiltinName.Yes → ⊥)) × ((name ≡ BuiltinName.Seq → ⊥)))) }
-    requires held_2 { Held st.old }
-    ensures held { Held st.new }
+fn start_at_once(
+    st: &mut Store,
+    process: Process,
+    first: usize,
+    name: BuiltinName,
+) -> Result<Process, Halt>
+    requires invoked { Invoked (model st.old) process name first }
+    requires plain { IsPlain name }
     ensures same { bounds st.new ≡ bounds st.old }
     ensures says { (text code : List ℕ) → Does text code (bounds st.old) (model st.old) (model st.new) process result }
 {
     let Some(control) = at_once(name) else {
-        return Step::Unsupported;
+        return Err(Halt::Unsupported);
     };
-    st.clear(process.base as usize + WORDS);
-    Step::Continues(Process { control, ..process })
+    st.clear(process.words());
+    Ok(process.goes_to(control))
 }
 
-// The words are expanded: the command that the first one names begins.
-pub fn step_invoke(st: &mut Store, process: Process) -> Step
-    requires control_value { process.control ≡ Control.AtInvoke }
-    requires held_2 { Held st.old }
-    ensures held { Held st.new }
+/// The words are expanded: the command that the first one names begins.
+pub fn step_invoke(st: &mut Store, process: Process) -> Result<Process, Halt>
+    requires control { process.control ≡ Control.AtInvoke }
     ensures same { bounds st.new ≡ bounds st.old }
     ensures says { (text code : List ℕ) → Does text code (bounds st.old) (model st.old) (model st.new) process result }
 {
-    let list = process.base as usize + WORDS;
+    let list = process.words();
     if st.len(list) == 0 {
-        return Step::Continues(Process {
-            control: Control::AtStatus(0),
-            ..process
-        });
+        return Ok(process.goes_to(Control::AtStatus(0)));
     }
-    let first = 1 + word_len(&st.words(list)[1..]);
-    let name = builtin_name(&st.words(list)[1..]);
+    let words = st.words_from(list, 1);
+    let first = 1 + word_len(words);
+    let name = builtin_name(words);
     match name {
         BuiltinName::Echo => start_echo(st, process, first),
-        BuiltinName::Exit => start_exit(st, process, first),
+        BuiltinName::Exit => Ok(start_exit(st, process, first)),
         BuiltinName::Yes => start_yes(st, process, first),
-        BuiltinName::Seq => start_seq(st, process, first),
-        _ => start_at_once(st, process, name),
+        BuiltinName::Seq => Ok(start_seq(st, process, first)),
+        _ => start_at_once(st, process, first, name),
     }
 }

@@ -1,332 +1,258 @@
-// What a process does next, from the code and a few numbers alone.
-ghost use Rattle.std.specs.Prelude.{◌≡◌, ℕ, ◌+◌, ◌-◌, ◌*◌, ◌<◌, ◌≤◌, slice_index};
-ghost use Rattle.machine.specs.Decide.{list_next, and_or_next, pipeline_next, plainly, words_start, unless, command_next, removed, and_or_status, if_status, loop_status, status_next, loop_unwind, unwind_next};
+//! What a process does next, from the code and a few numbers alone.
+ghost use Rattle.std.specs.Prelude.{◌≡◌, ℕ, ◌+◌, ◌<◌, ◌≤◌, Some, None};
+ghost use Rattle.machine.specs.Decide.{plainly, list_next, and_or_next, pipeline_next, words_start, command_next, tree_next, removed, replaced, and_or_status, if_status, status_next, loop_unwind, unwind_next};
 
-use crate::process::{Control, Process, Unwind};
+use crate::frames::Frame;
+use crate::process::{Control, Expansion, Process, Unwind};
+use code::{Code, Command};
 
-// Tags of frames; 0 is none.
-pub const NONE: u32 = 0;
+// Where a loop's condition stands in its cell.
+const CONDITION: usize = 2;
 
-pub const LIST: u32 = 1;
+// Where its body stands, and the list behind `then` of an if.
+const BODY: usize = 3;
 
-pub const HANDLES: u32 = 2;
+// Where an if has what stands behind `else`.
+const OTHERWISE: usize = 4;
 
-pub const AND_OR: u32 = 3;
-
-pub const NOT: u32 = 4;
-
-pub const IF: u32 = 5;
-
-pub const CONDITION: u32 = 6;
-
-pub const BODY: u32 = 7;
-
-// Tags of commands in the code.
-const SIMPLE: u32 = 0;
-
-const GROUP: u32 = 1;
-
-const IF_COMMAND: u32 = 3;
-
-const WHILE: u32 = 4;
-
-// What stands on the stack of a process: an address or two handles, and what it is for.
-#[derive(Clone, Copy)]
-pub struct Frame {
-    pub x: u32,
-    pub y: u32,
-    pub tag: u32,
-}
-
-// The next control, with a frame to push unless its tag is 0.
+/// The next control, with a frame to push, if there is one.
 #[derive(Clone, Copy)]
 pub struct Next {
     pub control: Control,
-    pub x: u32,
-    pub tag: u32,
+    pub frame: Option<Frame>,
 }
 
-// The process behind a frame, which goes if its tag is 0, or is kept with this tag.
+/// The process behind its last frame, and the frame that takes the place of that one, if there is one.
 #[derive(Clone, Copy)]
 pub struct Resumed {
     pub process: Process,
-    pub tag: u32,
+    pub frame: Option<Frame>,
 }
 
-// The code word at a; past the end it is 0.
-pub fn word(code: &[u32], a: usize) -> u32
-    ensures { result ≡ slice_index code.now a }
-{
-    if a < code.len() { code[a] } else { 0 }
+impl From<Control> for Next {
+    ghost from_gives = { λ control next. next ≡ plainly control };
+
+    fn from(control: Control) -> Next {
+        Next {
+            control,
+            frame: None,
+        }
+    }
 }
 
-pub fn next_list(code: &[u32], a: u32, status: u32) -> Option<Next>
-    ensures { result ≡ list_next code.now a status }
+fn next_list(code: Code<'_>, a: u32, status: u32) -> Option<Next>
+    ensures { result ≡ list_next code.entry.words.now a status }
 {
     if a == 0 {
-        return Some(Next {
-            control: Control::AtStatus(status),
-            x: 0,
-            tag: NONE,
-        });
+        return Some(Next::from(Control::AtStatus(status)));
     }
-    let at = a as usize;
-    if word(code, at + 1) != 0 {
+    let item = code.item(a);
+    if item.background {
         return None;
     }
-    let rest = word(code, at);
     Some(Next {
-        control: Control::AtAndOr(word(code, at + 2)),
-        x: rest,
-        tag: LIST,
+        control: Control::AtAndOr(item.and_or),
+        frame: Some(Frame::List(item.next)),
     })
 }
 
-pub fn next_and_or(code: &[u32], a: u32) -> Option<Next>
-    ensures { result ≡ and_or_next code.now a }
+fn next_and_or(code: Code<'_>, a: u32) -> Next
+    ensures { result ≡ and_or_next code.entry.words.now a }
 {
-    let at = a as usize;
-    let before = word(code, at);
-    if before == 0 {
-        let pipeline = word(code, at + 3);
-        return Some(Next {
-            control: Control::AtPipeline(pipeline, word(code, at + 2)),
-            x: 0,
-            tag: NONE,
-        });
+    let joined = code.and_or(a);
+    if joined.before == 0 {
+        return Next::from(Control::AtPipeline(joined.pipeline, joined.not));
     }
-    Some(Next {
-        control: Control::AtAndOr(before),
-        x: a,
-        tag: AND_OR,
-    })
+    Next {
+        control: Control::AtAndOr(joined.before),
+        frame: Some(Frame::AndOr(a)),
+    }
 }
 
-pub fn next_pipeline(code: &[u32], a: u32, not: u32) -> Option<Next>
-    ensures { result ≡ pipeline_next code.now a not }
+fn next_pipeline(code: Code<'_>, a: u32, not: bool) -> Option<Next>
+    ensures { result ≡ pipeline_next code.entry.words.now a not }
 {
-    if word(code, a as usize) != 0 {
+    if code.word(a as usize) != 0 {
         return None;
-    }
-    if not == 0 {
-        return Some(Next {
-            control: Control::AtCommand(a),
-            x: 0,
-            tag: NONE,
-        });
     }
     Some(Next {
         control: Control::AtCommand(a),
-        x: 0,
-        tag: NOT,
+        frame: not.then_some(Frame::Not),
     })
 }
 
-// Words from the cell at a, with nothing of them expanded yet.
-fn start_words(code: &[u32], a: u32) -> Control
-    ensures { result ≡ words_start code.now a }
+/// Words from the cell at a, with nothing of them expanded yet.
+pub fn start_words(code: Code<'_>, a: u32) -> Expansion
+    ensures { result ≡ words_start code.entry.words.now a }
 {
     if a == 0 {
-        return Control::AtWords(0, 0, false);
+        return Expansion {
+            words: 0,
+            parts: 0,
+            opened: false,
+        };
     }
-    let parts = word(code, a as usize + 1);
-    Control::AtWords(word(code, a as usize), parts, false)
+    Expansion {
+        words: code.word(a as usize),
+        parts: code.word(a as usize + 1),
+        opened: false,
+    }
 }
 
-fn simple_command(code: &[u32], at: usize) -> Option<Next>
-    requires { at < 4294967296 }
-    ensures { result ≡ unless (slice_index code.now (at + 2)) (unless (slice_index code.now (at + 4)) (plainly (words_start code.now (slice_index code.now (at + 3))))) }
+fn next_command(code: Code<'_>, a: u32) -> Option<Next>
+    ensures { result ≡ command_next code.entry.words.now a }
 {
-    if word(code, at + 2) != 0 {
-        return None;
-    }
-    if word(code, at + 4) != 0 {
-        return None;
-    }
-    let words = word(code, at + 3);
-    Some(Next {
-        control: start_words(code, words),
-        x: 0,
-        tag: NONE,
-    })
-}
-
-pub fn next_command(code: &[u32], a: u32) -> Option<Next>
-    ensures { result ≡ command_next code.now a }
-{
-    let at = a as usize;
-    let list = Control::AtList(word(code, at + 2));
-    match word(code, at + 1) {
-        SIMPLE => simple_command(code, at),
-        GROUP => {
-            if word(code, at + 3) != 0 {
-                return None;
-            }
-            Some(Next {
-                control: list,
-                x: 0,
-                tag: NONE,
-            })
-        }
-        IF_COMMAND => {
-            if word(code, at + 5) != 0 {
-                return None;
-            }
-            Some(Next {
-                control: list,
-                x: a,
-                tag: IF,
-            })
-        }
-        WHILE => {
-            if word(code, at + 4) != 0 {
-                return None;
-            }
-            Some(Next {
-                control: list,
-                x: a,
-                tag: CONDITION,
-            })
-        }
+    match code.command(a)? {
+        Command::Simple {
+            assignments: 0,
+            words,
+            redirects: 0,
+        } => Some(Next::from(Control::AtWords(start_words(code, words)))),
+        Command::Group { list, redirects: 0 } => Some(Next::from(Control::AtList(list))),
+        Command::If {
+            condition,
+            redirects: 0,
+            ..
+        } => Some(Next {
+            control: Control::AtList(condition),
+            frame: Some(Frame::If(a)),
+        }),
+        Command::While {
+            condition,
+            redirects: 0,
+            ..
+        } => Some(Next {
+            control: Control::AtList(condition),
+            frame: Some(Frame::Condition(a)),
+        }),
         _ => None,
     }
 }
 
+/// What comes next where the code alone decides it.
+pub fn next_of_tree(code: Code<'_>, process: Process) -> Option<Next>
+    ensures { result ≡ tree_next code.entry.words.now process.control process.status }
+{
+    match process.control {
+        Control::AtList(a) => next_list(code, a, process.status),
+        Control::AtAndOr(a) => Some(next_and_or(code, a)),
+        Control::AtPipeline(a, not) => next_pipeline(code, a, not),
+        Control::AtCommand(a) => next_command(code, a),
+        _ => None,
+    }
+}
+
+// The frame goes.
 fn off(process: Process, control: Control) -> Resumed
     ensures { result ≡ removed process control }
 {
     Resumed {
-        process: Process { control, ..process },
-        tag: NONE,
+        process: process.goes_to(control),
+        frame: None,
     }
 }
 
-fn and_or_status(code: &[u32], process: Process, x: u32, n: u32) -> Resumed
-    ensures { result ≡ and_or_status code.now process x n }
+// Another frame takes its place.
+fn on(process: Process, control: Control, frame: Frame) -> Resumed
+    ensures { result ≡ replaced process control frame }
 {
-    let at = x as usize;
-    let not = word(code, at + 2);
-    let go_on = Control::AtPipeline(word(code, at + 3), not);
-    if word(code, at + 1) == 0 {
-        if n == 0 {
-            return off(process, Control::AtStatus(n));
-        }
-        return off(process, go_on);
+    Resumed {
+        process: process.goes_to(control),
+        frame: Some(frame),
     }
-    if n == 0 {
-        return off(process, go_on);
-    }
-    off(process, Control::AtStatus(n))
 }
 
-fn if_status(code: &[u32], process: Process, x: u32, n: u32) -> Resumed
-    ensures { result ≡ if_status code.now process x n }
+fn and_or_status(code: Code<'_>, process: Process, a: u32, n: u32) -> Resumed
+    ensures { result ≡ and_or_status code.entry.words.now process a n }
 {
-    let at = x as usize;
-    if n == 0 {
-        return off(process, Control::AtList(word(code, at + 3)));
+    let joined = code.and_or(a);
+    if joined.and == (n == 0) {
+        off(process, Control::AtPipeline(joined.pipeline, joined.not))
+    } else {
+        off(process, Control::AtStatus(n))
     }
-    let other = word(code, at + 4);
+}
+
+fn if_status(code: Code<'_>, process: Process, a: u32, n: u32) -> Resumed
+    ensures { result ≡ if_status code.entry.words.now process a n }
+{
+    let at = a as usize;
+    if n == 0 {
+        return off(process, Control::AtList(code.word(at + BODY)));
+    }
+    let other = code.word(at + OTHERWISE);
     if other == 0 {
         return off(process, Control::AtStatus(0));
     }
-    off(process, Control::AtList(word(code, other as usize)))
+    off(process, Control::AtList(code.word(other as usize)))
 }
 
-fn loop_status(code: &[u32], process: Process, f: Frame, n: u32) -> Resumed
-    ensures { result ≡ loop_status code.now process n f.x f.tag }
+/// A command is done with status n, which is the last status of the process already; `frame` is its last frame.
+pub fn next_status(code: Code<'_>, process: Process, frame: Frame, n: u32) -> Resumed
+    ensures { result ≡ status_next code.entry.words.now process frame n }
 {
-    let at = f.x as usize;
-    if f.tag == CONDITION {
-        if n != 0 {
-            return off(process, Control::AtStatus(0));
-        }
-        let body = Control::AtList(word(code, at + 3));
-        return Resumed {
-            process: Process {
-                control: body,
-                ..process
-            },
-            tag: BODY,
-        };
-    }
-    let condition = Control::AtList(word(code, at + 2));
-    Resumed {
-        process: Process {
-            control: condition,
-            ..process
-        },
-        tag: CONDITION,
-    }
-}
-
-// A command is done with status n, which is the last status of the process already; f is its last frame.
-pub fn next_status(code: &[u32], process: Process, f: Frame, n: u32) -> Resumed
-    ensures { result ≡ status_next code.now process n f.x f.y f.tag }
-{
-    match f.tag {
-        LIST => {
-            if f.x == 0 {
-                return off(process, Control::AtStatus(n));
-            }
-            off(process, Control::AtList(f.x))
-        }
-        HANDLES => off(
+    match frame {
+        Frame::List(0) => off(process, Control::AtStatus(n)),
+        Frame::List(rest) => off(process, Control::AtList(rest)),
+        Frame::Handles { stdin, stdout } => off(
             Process {
-                stdin: f.x,
-                stdout: f.y,
+                stdin,
+                stdout,
                 ..process
             },
             Control::AtStatus(n),
         ),
-        AND_OR => and_or_status(code, process, f.x, n),
-        NOT => {
-            if n == 0 {
-                return off(process, Control::AtStatus(1));
+        Frame::AndOr(a) => and_or_status(code, process, a, n),
+        Frame::Not => off(process, Control::AtStatus(u32::from(n == 0))),
+        Frame::If(a) => if_status(code, process, a, n),
+        Frame::Condition(a) => {
+            if n != 0 {
+                return off(process, Control::AtStatus(0));
             }
-            off(process, Control::AtStatus(0))
+            let body = code.word(a as usize + BODY);
+            on(process, Control::AtList(body), Frame::Body(a))
         }
-        IF => if_status(code, process, f.x, n),
-        _ => loop_status(code, process, f, n),
+        Frame::Body(a) => {
+            let condition = code.word(a as usize + CONDITION);
+            on(process, Control::AtList(condition), Frame::Condition(a))
+        }
     }
 }
 
-fn loop_unwind(code: &[u32], process: Process, unwind: Unwind, f: Frame, n: u32) -> Resumed
-    ensures { result ≡ loop_unwind code.now process unwind n f.x }
+// break, continue, return or exit at the frame of the loop at a.
+fn loop_unwind(code: Code<'_>, process: Process, unwind: Unwind, a: u32, n: u32) -> Resumed
+    ensures { result ≡ loop_unwind code.entry.words.now process unwind a n }
 {
     match unwind {
         Unwind::Break => off(process, Control::AtStatus(0)),
         Unwind::Continue => {
-            let condition = Control::AtList(word(code, f.x as usize + 2));
-            Resumed {
-                process: Process {
-                    control: condition,
-                    ..process
-                },
-                tag: CONDITION,
-            }
+            let condition = code.word(a as usize + CONDITION);
+            on(process, Control::AtList(condition), Frame::Condition(a))
         }
-        Unwind::Return => off(process, Control::AtUnwind(Unwind::Return, n)),
-        Unwind::Exit => off(process, Control::AtUnwind(Unwind::Exit, n)),
+        Unwind::Return | Unwind::Exit => off(process, Control::AtUnwind(unwind, n)),
     }
 }
 
-// break, continue, return or exit goes out of the frame f.
-pub fn next_unwind(code: &[u32], process: Process, unwind: Unwind, f: Frame, n: u32) -> Resumed
-    ensures { result ≡ unwind_next code.now process unwind n f.x f.y f.tag }
+/// break, continue, return or exit goes out of a frame.
+pub fn next_unwind(
+    code: Code<'_>,
+    process: Process,
+    unwind: Unwind,
+    frame: Frame,
+    n: u32,
+) -> Resumed
+    ensures { result ≡ unwind_next code.entry.words.now process unwind frame n }
 {
-    if f.tag >= CONDITION {
-        return loop_unwind(code, process, unwind, f, n);
-    }
-    if f.tag == HANDLES {
-        return off(
+    match frame {
+        Frame::Condition(a) | Frame::Body(a) => loop_unwind(code, process, unwind, a, n),
+        Frame::Handles { stdin, stdout } => off(
             Process {
-                stdin: f.x,
-                stdout: f.y,
+                stdin,
+                stdout,
                 ..process
             },
             Control::AtUnwind(unwind, n),
-        );
+        ),
+        _ => off(process, Control::AtUnwind(unwind, n)),
     }
-    off(process, Control::AtUnwind(unwind, n))
 }

@@ -1,121 +1,91 @@
-// Printing on the paper, byte by byte.
+//! Printing on the paper, byte by byte.
 ghost use Rattle.std.specs.Prelude.{◌≡◌, ℕ, ◌+◌, ◌-◌, ◌*◌, ◌%◌, ◌<◌, ◌≤◌, List, [], ◌∷◌, ◌++◌, length};
-ghost use Rattle.store.specs.Held.{model, bounds, Held};
+ghost use Rattle.store.specs.Held.{model, bounds};
 ghost use Rattle.meaning.specs.Words.{decimal, as_line};
-ghost use Rattle.machine.specs.Encoding.{rev};
-ghost use Rattle.machine.specs.Promises.{Pushed, Does, Stepped};
+ghost use Rattle.words.specs.Encoding.{rev};
+ghost use Rattle.words.specs.Pushed.{Pushed};
+ghost use Rattle.machine.specs.Promises.{Does, Stepped};
 
 use crate::builtins::NEWLINE;
-use crate::frames::{append, extend};
-use crate::process::{Builtin, Control, LINE, PAPER, Process, TEXT};
+use crate::halt::Halt;
+use crate::process::{Builtin, Control, PAPER, Process};
 use crate::step::Step;
-use store::Store;
+use store::{Refusal, Store};
+use words::{append, extend};
 
-// The digit 0.
-const ZERO: u32 = 48;
+const ZERO: u32 = b'0' as u32;
 
-// The next byte of the text goes to the paper, at this place; where there is none the builtin goes on.
+/// The next byte of the text goes to the paper, at this place; where there is none the builtin goes on.
+// A struct of the paper and the place would hold the lent bytes, and each call would have to promise that it holds the same ones still.
 pub fn step_print(
     st: &mut Store,
     paper: &mut [u8],
     place: usize,
     process: Process,
     builtin: Builtin,
-) -> Step
-    requires control_value { process.control ≡ Control.AtPrint builtin }
-    requires held_2 { Held st.old }
-    ensures held { Held st.new }
+) -> Result<Step, Halt>
+    requires control { process.control ≡ Control.AtPrint builtin }
     ensures same { bounds st.new ≡ bounds st.old }
     ensures says { (text code : List ℕ) → Stepped text code (bounds st.old) (model st.old) (model st.new) paper.old paper.new place process result }
 {
-    let list = process.base as usize + TEXT;
+    let list = process.text();
     let len = st.len(list);
     if len == 0 {
-        return Step::Continues(Process {
-            control: Control::AtBuiltin(builtin),
-            ..process
-        });
+        return Ok(Step::Continues(process.goes_to(Control::AtBuiltin(builtin))));
     }
     if process.stdout != PAPER {
-        return Step::Unsupported;
+        return Err(Halt::Unsupported);
     }
     if place >= paper.len() {
-        return Step::PaperFull;
+        return Err(Halt::PaperFull);
     }
     let byte = st.get(list, len - 1);
     st.truncate(list, len - 1);
     paper[place] = (byte % 256) as u8;
-    Step::Prints(process, place + 1)
+    Ok(Step::Prints(process, place + 1))
 }
 
 // The digits of a number behind list i, the last first; or a refusal.
-fn push_decimal(st: &mut Store, i: usize, n: u32) -> bool
-    requires { Held st.old }
-    ensures held { Held st.new }
+fn push_decimal(st: &mut Store, i: usize, n: u32) -> Result<(), Refusal>
     ensures same { bounds st.new ≡ bounds st.old }
     ensures says { Pushed (bounds st.old) i (model st.old) (model st.new) (rev (decimal n)) result }
 {
     let mut rest = n;
     while rest >= 10 {
-        if !extend(st, i, &[ZERO + rest % 10]) {
-            return false;
-        }
+        extend(st, i, &[ZERO + rest % 10])?;
         rest /= 10;
     }
     extend(st, i, &[ZERO + rest])
 }
 
 // A number as a line behind list i, reversed; or a refusal.
-fn push_number(st: &mut Store, i: usize, n: u32) -> bool
-    requires { Held st.old }
-    ensures held { Held st.new }
+fn push_number(st: &mut Store, i: usize, n: u32) -> Result<(), Refusal>
     ensures same { bounds st.new ≡ bounds st.old }
     ensures says { Pushed (bounds st.old) i (model st.old) (model st.new) (rev (as_line (decimal n))) result }
 {
-    if !extend(st, i, &[NEWLINE]) {
-        return false;
-    }
+    extend(st, i, &[NEWLINE])?;
     push_decimal(st, i, n)
 }
 
-// A builtin goes on when its text is printed.
-pub fn step_builtin(st: &mut Store, process: Process, builtin: Builtin) -> Step
-    requires control_value { process.control ≡ Control.AtBuiltin builtin }
-    requires held_2 { Held st.old }
-    ensures held { Held st.new }
+/// A builtin goes on when its text is printed.
+pub fn step_builtin(st: &mut Store, process: Process, builtin: Builtin) -> Result<Process, Halt>
+    requires control { process.control ≡ Control.AtBuiltin builtin }
     ensures same { bounds st.new ≡ bounds st.old }
     ensures says { (text code : List ℕ) → Does text code (bounds st.old) (model st.old) (model st.new) process result }
 {
-    let list = process.base as usize + TEXT;
     match builtin {
-        Builtin::Done(n) => Step::Continues(Process {
-            control: Control::AtStatus(n),
-            ..process
-        }),
+        Builtin::Done(n) => Ok(process.goes_to(Control::AtStatus(n))),
         Builtin::Seq(from, to) => {
             if from > to {
-                return Step::Continues(Process {
-                    control: Control::AtStatus(0),
-                    ..process
-                });
+                return Ok(process.goes_to(Control::AtStatus(0)));
             }
-            if !push_number(st, list, from) {
-                return Step::NoRoom;
-            }
+            push_number(st, process.text(), from)?;
             let next = Builtin::Seq(from.saturating_add(1), to);
-            Step::Continues(Process {
-                control: Control::AtPrint(next),
-                ..process
-            })
+            Ok(process.goes_to(Control::AtPrint(next)))
         }
         Builtin::Yes => {
-            if !append(st, list, process.base as usize + LINE) {
-                return Step::NoRoom;
-            }
-            Step::Continues(Process {
-                control: Control::AtPrint(Builtin::Yes),
-                ..process
-            })
+            append(st, process.text(), process.line())?;
+            Ok(process.goes_to(Control::AtPrint(Builtin::Yes)))
         }
     }
 }

@@ -1,16 +1,17 @@
-// A process, as far as it is passed by value. What grows stands in lists of the store, from the number `base` on.
+//! A process, as far as it is passed by value. What grows stands in lists of the store, from the number `base` on.
+ghost use Rattle.std.specs.Prelude.{◌≡◌, ◌+◌};
 
-// The lists of a process, from its base on: frames; words being expanded; text to print, reversed; the line of yes, reversed.
-pub const WORDS: usize = 1;
-
-pub const TEXT: usize = 2;
-
-pub const LINE: usize = 3;
-
-// The handle of the host's paper.
+/// The handle of the host's paper.
 pub const PAPER: u32 = 1;
 
-// What a builtin does when its text is printed.
+// The lists of a process behind that of its frames, from its base on.
+const WORDS: usize = 1;
+
+const TEXT: usize = 2;
+
+const LINE: usize = 3;
+
+/// What a builtin does when its text is printed.
 #[derive(Clone, Copy)]
 pub enum Builtin {
     Done(u32),
@@ -26,16 +27,26 @@ pub enum Unwind {
     Exit,
 }
 
-// What a process does next; a number is an address in the code or a status.
+/// Words being expanded, by their addresses.
+#[derive(Clone, Copy)]
+pub struct Expansion {
+    /// the words to come
+    pub words: u32,
+    /// the parts to come of this one
+    pub parts: u32,
+    /// whether anything of it is there
+    pub opened: bool,
+}
+
+/// What a process does next; a number is an address in the code or a status.
 #[derive(Clone, Copy)]
 pub enum Control {
     AtList(u32),
     AtAndOr(u32),
-    // with whether ! stands before it
-    AtPipeline(u32, u32),
+    /// with whether ! stands before it
+    AtPipeline(u32, bool),
     AtCommand(u32),
-    // the words to come, the parts to come of this one, whether anything of it is there
-    AtWords(u32, u32, bool),
+    AtWords(Expansion),
     AtInvoke,
     AtPrint(Builtin),
     AtBuiltin(Builtin),
@@ -50,4 +61,43 @@ pub struct Process {
     pub stdin: u32,
     pub stdout: u32,
     pub base: u32,
+}
+
+impl Process {
+    ghost use Rattle.machine.specs.Decide.{going};
+
+    /// The same process, with this to do next.
+    pub(crate) fn goes_to(self, control: Control) -> Self
+        ensures { result ≡ going self control }
+    {
+        Process { control, ..self }
+    }
+
+    /// The list of its frames.
+    pub(crate) fn frames(self) -> usize
+        ensures { result ≡ self.base }
+    {
+        self.base as usize
+    }
+
+    /// The list of its words being expanded.
+    pub(crate) fn words(self) -> usize
+        ensures { result ≡ self.base + 1 }
+    {
+        self.base as usize + WORDS
+    }
+
+    /// The list of its text to print, reversed.
+    pub(crate) fn text(self) -> usize
+        ensures { result ≡ self.base + 2 }
+    {
+        self.base as usize + TEXT
+    }
+
+    /// The list of the line of yes, reversed.
+    pub(crate) fn line(self) -> usize
+        ensures { result ≡ self.base + 3 }
+    {
+        self.base as usize + LINE
+    }
 }

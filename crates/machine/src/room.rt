@@ -1,17 +1,13 @@
-// How much room a process takes in the store.
+//! How much room a process takes in the store.
 ghost use Rattle.machine.specs.Room.{OwnRoom, RefusalBound};
 
-// The words in the lists of a process are no more than what its control and frames take; so with the bound of a refusal,
-// memory runs out only when so much is needed.
-pub fn own_room_stands() -> u8
+/// The words in the lists of a process are no more than what its control and frames take; so with the bound of a refusal,
+/// memory runs out only when so much is needed.
+pub fn own_room_stands()
     ensures { OwnRoom }
-{
-    0
-}
+{}
 
-// How many words are lent at most where room is refused.
-pub fn refusal_bound_stands() -> u8
+/// How many words are lent at most where room is refused.
+pub fn refusal_bound_stands()
     ensures { RefusalBound }
-{
-    0
-}
+{}

@@ -1,12 +1,12 @@
 -- Opening the first lists of a store.
-use Rattle.std.proofs.Common.{◌≡◌, ℕ, zero, suc, ◌+◌, ◌-◌, ◌/◌, ◌<◌, ◌≤◌, Bool, true, false, List, [], ◌∷◌, ◌++◌, length, get_or, set, replicate, is_err, Ok, Err, Result, sym, refl, ap, ◌∙◌, arith, MatchResult}
+use Rattle.std.proofs.Common.{◌≡◌, ℕ, zero, suc, ◌+◌, ◌-◌, ◌/◌, ◌<◌, ◌≤◌, Bool, true, false, List, [], ◌∷◌, ◌++◌, length, get_or, set, replicate, Ok, Err, sym, refl, ap, ◌∙◌, arith}
 use Rattle.store.specs.declared.Refusal.{Refusal}
 use Rattle.std.specs.List.{prefix_len}
 use Rattle.std.proofs.lemmas.List.Sums.{sum_by-cons}
 use Rattle.segments.specs.Layout.{need}
 use Rattle.store.specs.Sums.{extent, asked, enough, told}
 use Rattle.store.proofs.Bounds.{no_room, no_number}
-use Rattle.machine.proofs.Pushes.{differ}
+use Rattle.words.proofs.Pushes.{refused}
 use Rattle.scheduler.specs.Lists.{opened, Opened}
 
 pub leading_opened : (k r : ℕ) → prefix_len (λ (b : Bool). b) (replicate k true ++ replicate r false) ≡ k
@@ -46,29 +46,20 @@ need_nothing zero = refl
 need_nothing (suc n) = sum_by-cons length [] (replicate n []) ∙ omega (arith, need_nothing n)
 
 -- where no list can be opened, or the queue gets no word, few words are lent
-pub few_lists : (all n : ℕ) (m : List (List ℕ)) (b : ℕ × List Bool) → n ≤ 5 → m ≡ replicate (all / 2) [] → Opened n (all / 2) m b false → all < 65376
-few_lists all n m b h e o =
-    let z = o.no refl in
+pub few_lists : (all n : ℕ) (m : List (List ℕ)) (b : ℕ × List Bool) (w : Refusal) → n ≤ 5 → m ≡ replicate (all / 2) [] → Opened n (all / 2) m b (Err w) → all < 65376
+few_lists all n m b w h e o =
+    let z = o.err in
     omega (arith, no_number all b m o.half z.3, ap extent z.2, extent_opened z.0 (all / 2), ap need e, need_nothing (all / 2), z.1)
 
-told_refused : (a e : Bool) → is_err (told a e) ≡ true → a ≡ true → e ≡ false
-told_refused true true h z = absurd (differ (sym h))
-told_refused true false h z = refl
-told_refused false e h z = absurd (differ (sym z))
-
-pub few_words : (all : ℕ) (m : List (List ℕ)) (b : ℕ × List Bool) → 5 ≤ all / 2 → m ≡ replicate (all / 2) [] → Opened 5 (all / 2) m b true → is_err (told (get_or b.1 0 false) (enough b m (asked (length (get_or m 0 []) + 1)))) ≡ true → all < 65376
-few_words all m b h e o r =
-    let z = o.yes refl in
+pub few_words : (all : ℕ) (m : List (List ℕ)) (b : ℕ × List Bool) (u : Unit {0}) (w : Refusal) → 5 ≤ all / 2 → m ≡ replicate (all / 2) [] → Opened 5 (all / 2) m b (Ok u) → Err w ≡ told (get_or b.1 0 false) (enough b m (asked (length (get_or m 0 []) + 1))) → all < 65376
+few_words all m b u w h e o r =
+    let z = o.ok in
     let n : length (get_or m 0 []) ≡ 0 = ap (λ m. length (get_or m 0 [])) e ∙ none (all / 2) in
-    omega (arith, no_room all b m (length (get_or m 0 []) + 1) o.half (told_refused _ _ r (ap (λ l. get_or l 0 false) z)), ap extent z, extent_opened 5 (all / 2), ap need e, need_nothing (all / 2))
+    omega (arith, no_room all b m (length (get_or m 0 []) + 1) o.half (refused _ _ w (sym r) (ap (λ l. get_or l 0 false) z)), ap extent z, extent_opened 5 (all / 2), ap need e, need_nothing (all / 2))
   where
     none : (n : ℕ) → length (get_or (replicate {A = List ℕ} n []) 0 []) ≡ 0
     none zero = refl
     none (suc n) = refl
-
-pub pushed : {X : Type 0} (Y : Type 0) (r : Result (Unit {0}) Refusal) → false ≡ is_err r → MatchResult r (λ _. X) (λ _. Y) → X
-pushed Y (Ok u) e h = h
-pushed Y (Err w) e h = absurd (differ (sym e))
 
 -- the first word of the queue
 pub queue_begins : (n v : ℕ) (m m' m'' : List (List ℕ)) → m ≡ replicate n [] → m' ≡ m → m'' ≡ set m' 0 (get_or m' 0 [] ++ (v ∷ [])) → m'' ≡ set (replicate n []) 0 (v ∷ [])

@@ -1,7 +1,7 @@
 -- A queue whose first goes to the back.
-use Rattle.std.proofs.Common.{◌≡◌, ℕ, zero, suc, ◌+◌, ◌<◌, List, [], ◌∷◌, ◌++◌, length, get_or, drop, set, refl, ap, ◌∙◌, arith}
+use Rattle.std.proofs.Common.{◌≡◌, ℕ, zero, suc, ◌+◌, ◌<◌, List, [], ◌∷◌, ◌++◌, length, get_or, drop, set, Some, None, refl, ap, ◌∙◌, arith}
 use Rattle.std.proofs.lemmas.List.{set-set, get_or-set_same}
-use Rattle.scheduler.specs.Queue.{rotated, shifted}
+use Rattle.scheduler.specs.Queue.{first, rotated, shifted}
 
 come_forward : (i : ℕ) (q : List ℕ) → suc i < length q → set (shifted i q) i (get_or (shifted i q) (suc i) 0) ≡ shifted (suc i) q
 come_forward zero [] h = absurd (omega arith)
@@ -44,3 +44,7 @@ pub queue_none : (m : List (List ℕ)) → length (get_or m 0 []) ≡ 0 → m �
 queue_none [] h = refl
 queue_none ([] ∷ m) h = refl
 queue_none ((x ∷ q) ∷ m) h = absurd (omega arith)
+
+pub first_is : (q : List ℕ) (v : ℕ) → Some v ≡ first q → (0 < length q) × (v ≡ get_or q 0 0)
+first_is [] v h = let z : Some v ≡ None = h in absurd (cc)
+first_is (x ∷ q) v h = let z : v ≡ x = cc in (omega arith, z)

@@ -6,4 +6,4 @@ mod queue;
 mod slices;
 
 pub use lists::open_lists;
-pub use slices::{LISTS, Outcome, execute, first_process};
+pub use slices::{End, LISTS, Outcome, execute, first_process};

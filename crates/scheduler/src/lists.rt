@@ -1,23 +1,21 @@
-// The lists that a run begins with.
-ghost use Rattle.std.specs.Prelude.{◌≡◌, ℕ, ◌+◌, ◌-◌, ◌*◌, ◌/◌, ◌<◌, ◌≤◌, Bool, true, false, List, [], ◌∷◌, ◌++◌, length, replicate};
-ghost use Rattle.store.specs.Held.{model, bounds, Held};
+//! The lists that a run begins with.
+ghost use Rattle.std.specs.Prelude.{◌≡◌, ℕ, ◌+◌, ◌-◌, ◌<◌, ◌≤◌, Bool, true, false, List, [], ◌∷◌, ◌++◌, length, replicate};
+ghost use Rattle.store.specs.Held.{model, bounds};
 ghost use Rattle.scheduler.specs.Lists.{opened, Opened};
 
-use store::Store;
+use store::{Refusal, Store};
 
 /// Opens the lists 0 up to n of a store with none in use; or there is no room for them.
-pub fn open_lists(st: &mut Store, n: usize) -> bool
-    requires held_2 { Held st.old }
-    requires st_value { (bounds st.old).1 ≡ opened 0 (bounds st.old).0 }
-    requires n_bound { n ≤ (bounds st.old).0 }
-    ensures held { Held st.new }
+pub fn open_lists(st: &mut Store, n: usize) -> Result<(), Refusal>
+    requires none { (bounds st.old).1 ≡ opened 0 (bounds st.old).0 }
+    requires numbers { n ≤ (bounds st.old).0 }
     ensures after { model st.new ≡ model st.old }
     ensures says { Opened n (bounds st.old).0 (model st.old) (bounds st.new) result }
 {
-    for j in 0..n {
+    for _j in 0..n {
         if st.fresh().is_none() {
-            return false;
+            return Err(Refusal::NoRoom);
         }
     }
-    true
+    Ok(())
 }

@@ -1,23 +1,31 @@
-// The loop: the first in the queue takes a slice of moves, and goes to the back.
-ghost use Rattle.std.specs.Prelude.{◌≡◌, ℕ, ◌+◌, ◌-◌, ◌*◌, ◌/◌, ◌<◌, ◌≤◌, List, [], ◌∷◌, ◌++◌, length, replicate};
-ghost use Rattle.store.specs.Held.{model, bounds, Held};
-ghost use Rattle.scheduler.specs.Lists.{opened};
-ghost use Rattle.scheduler.specs.Outcomes.{Executed, Goes};
+//! The loop: the first in the queue takes a slice of moves, and goes to the back.
+ghost use Rattle.std.specs.Prelude.{◌≡◌, ℕ, ◌+◌, ◌-◌, ◌*◌, ◌/◌, ◌<◌, ◌≤◌, List, [], ◌∷◌, ◌++◌, length, replicate, MatchResult};
+ghost use Rattle.store.specs.Held.{model, bounds};
+ghost use Rattle.scheduler.specs.Lists.{opened, Begun};
+ghost use Rattle.scheduler.specs.Outcomes.{Executed, Goes, at_root};
 
 use crate::lists::open_lists;
 use crate::queue::{QUEUE, first_ready, rotate};
-use machine::{Control, Ending, Process, run_stretch};
-use store::{Store, store_in};
+use code::Code;
+use machine::{Control, Ending, Halt, Process, run_stretch};
+use store::{Refusal, Store, store_in};
 
-/// What a run came to, with how many bytes stand on the paper; its status, if it ended.
+/// How a run ended where nothing stopped it.
 #[derive(Clone, Copy)]
-pub enum Outcome {
-    Ended(usize, u32),
-    Still(usize),
-    Spent(usize),
-    NoRoom(usize),
-    PaperFull(usize),
-    Unsupported,
+pub enum End {
+    /// all processes have exited, the first one with this status
+    Exited(u32),
+    /// processes are left, and none can go on
+    Still,
+    /// as many moves are made as were allowed
+    Spent,
+}
+
+/// What a run came to, with how many bytes stand on the paper.
+#[derive(Clone, Copy)]
+pub struct Outcome {
+    pub printed: usize,
+    pub end: Result<End, Halt>,
 }
 
 // At most so many moves in a row by one process.
@@ -31,7 +39,7 @@ pub const LISTS: usize = 5;
 
 /// The first process, at the beginning of a list of commands.
 pub fn first_process(root: u32) -> Process
-    ensures { result ≡ record { control = Control.AtList root; status = 0; stdin = 0; stdout = 1; base = 1 } }
+    ensures { result ≡ at_root root }
 {
     Process {
         control: Control::AtList(root),
@@ -44,72 +52,79 @@ pub fn first_process(root: u32) -> Process
 
 // Slices of moves, until the run is over.
 fn run_slices(
-    text: &[u8],
-    code: &[u32],
+    code: Code<'_>,
     st: &mut Store,
     most: u64,
     paper: &mut [u8],
-    first: Process,
     root: u32,
     words: usize,
 ) -> Outcome
-    requires held { Held st.old }
-    requires st_value { bounds st.old ≡ (words / 2, opened 5 (words / 2)) }
-    requires goes { Goes text.now code.now root (opened 5 (words / 2)) (model st.old) paper.old paper.old 0 0 first }
-    ensures { Executed text.now code.now root most words paper.old paper.new result }
+    requires numbers { bounds st.old ≡ (words / 2, opened 5 (words / 2)) }
+    requires goes { Goes code.text.now code.words.now root (opened 5 (words / 2)) (model st.old) paper.old paper.old 0 0 (at_root root) }
+    ensures { Executed code.entry.text.now code.entry.words.now root most words paper.old paper.new result }
 {
-    let mut process = first;
-    let mut place = 0;
+    let mut process = first_process(root);
+    let mut printed = 0;
     let mut made = 0;
     while made < most {
-        let Some(_) = first_ready(st) else {
-            return Outcome::Still(place);
-        };
+        if first_ready(st).is_none() {
+            return Outcome {
+                printed,
+                end: Ok(End::Still),
+            };
+        }
         let slice = (most - made).min(SLICE);
-        let stretch = run_stretch(text, code, st, paper, place, process, slice as u32);
-        place = stretch.place;
-        match stretch.ending {
-            Ending::Exited(status) => return Outcome::Ended(place, status),
-            Ending::NoRoom => return Outcome::NoRoom(place),
-            Ending::PaperFull => return Outcome::PaperFull(place),
-            Ending::Unsupported => return Outcome::Unsupported,
+        let stretch = run_stretch(code, st, paper, printed, process, slice as u32);
+        printed = stretch.place;
+        let ending = match stretch.ending {
+            Ok(ending) => ending,
+            Err(halt) => {
+                return Outcome {
+                    printed,
+                    end: Err(halt),
+                };
+            }
+        };
+        match ending {
             Ending::Spent => process = stretch.process,
+            Ending::Exited(status) => {
+                return Outcome {
+                    printed,
+                    end: Ok(End::Exited(status)),
+                };
+            }
         }
         made += slice;
         rotate(st);
     }
-    Outcome::Spent(place)
+    Outcome {
+        printed,
+        end: Ok(End::Spent),
+    }
+}
+
+// A store in these words, with the lists of the first process, which is alone in the queue; or there is no room for them.
+fn begin(words: &mut [u32]) -> Result<Store<'_>, Refusal>
+    ensures { MatchResult result (λ st. Begun (length words.old) (bounds st) (model st)) (λ _. length words.old < 65376) }
+{
+    let Some(mut st) = store_in(words) else {
+        return Err(Refusal::NoRoom);
+    };
+    open_lists(&mut st, LISTS)?;
+    st.push(QUEUE, 0)?;
+    Ok(st)
 }
 
 /// Runs the list of commands whose code begins at `root`, at most so many moves, within these words.
-pub fn execute(
-    text: &[u8],
-    code: &[u32],
-    root: u32,
-    most: u64,
-    paper: &mut [u8],
-    words: &mut [u32],
-) -> Outcome
-    ensures { Executed text.now code.now root most (length words.old) paper.old paper.new result }
+pub fn execute(code: Code<'_>, root: u32, most: u64, paper: &mut [u8], words: &mut [u32]) -> Outcome
+    ensures { Executed code.entry.text.now code.entry.words.now root most (length words.old) paper.old paper.new result }
 {
     let all = words.len();
-    let Some(mut st) = store_in(words) else {
-        return Outcome::NoRoom(0);
-    };
-    if !open_lists(&mut st, LISTS) {
-        return Outcome::NoRoom(0);
+    match begin(words) {
+        Ok(mut st) => run_slices(code, &mut st, most, paper, root, all),
+        Err(_) => Outcome {
+            printed: 0,
+            end: Err(Halt::NoRoom),
+        },
     }
-    if st.push(QUEUE, 0).is_err() {
-        return Outcome::NoRoom(0);
-    }
-    run_slices(
-        text,
-        code,
-        &mut st,
-        most,
-        paper,
-        first_process(root),
-        root,
-        all,
-    )
 }

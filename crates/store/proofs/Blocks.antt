@@ -3,30 +3,30 @@ use Rattle.std.proofs.Common.{◌≡◌, ℕ, suc, ◌+◌, ◌-◌, ◌*◌, �
 use Rattle.std.proofs.lemmas.List.{set-set}
 use Rattle.std.proofs.lemmas.Bool.{and_from}
 use Rattle.segments.specs.Layout.{mark}
-use Rattle.store.specs.declared.Store.{Store}
 use Rattle.store.specs.Sums.{extent}
 use Rattle.store.specs.Dense.{Dense, marked, replaced, replaced_block}
-use Rattle.store.specs.Held.{lists, lives, Sound, Held, model, bounds, spent}
+use Rattle.store.specs.Layout.{Layout, lists, lives}
+use Rattle.store.specs.Held.{Held, model, bounds, spent}
 use Rattle.store.proofs.Totals.{live_is}
 use Rattle.store.proofs.StoreLaws.{extent_of, live_back}
 use Rattle.store.proofs.Density.{Front, dense_front, front_extent, front_dense, dense_by, dense_remove, removed_bounds, removed_model, given_live, given_front, given_lists}
 
-module _ (s : Store) (v : Held s) where
+module _ (s : Layout) (v : Held s) where
   pub extent_count : extent (bounds s).1 ≡ s.count
   unfolding Held bounds
   extent_count = extent_of _ _ _ _ _ _ _ v
 
   pub in_table : (i : ℕ) → get_or (bounds s).1 i false ≡ true → i < s.count
   unfolding bounds
-  in_table i e = (live_back s.words.now s.half s.count i e).0
+  in_table i e = (live_back s.words s.half s.count i e).0
 
   last_in_use : 0 < s.count → get_or (bounds s).1 (s.count - 1) false ≡ true
   unfolding Held bounds
-  last_in_use h = live_is s.words.now s.half s.count (s.count - 1) (omega arith)
-      (⊎_elim (λ (z : s.count ≡ 0). absurd (omega arith)) (λ (z : mark s.words.now (s.count - 1) ≡ 1). z) v.tight)
+  last_in_use h = live_is s.words s.half s.count (s.count - 1) (omega arith)
+      (⊎_elim (λ (z : s.count ≡ 0). absurd (omega arith)) (λ (z : mark s.words (s.count - 1) ≡ 1). z) v.tight)
 
   -- the last list changes places with list i, and then goes out of use
-  module _ (i : ℕ) (t : get_or (bounds s).1 i false ≡ true) (s₁ s₂ : Store) where
+  module _ (i : ℕ) (t : get_or (bounds s).1 i false ≡ true) (s₁ s₂ : Layout) where
     pub removed_same : bounds s₁ ≡ bounds s → bounds s₂ ≡ ((bounds s₁).0, set (bounds s₁).1 (s.count - 1) false) →
         bounds s₂ ≡ cond (get_or (bounds s).1 i false) ((bounds s).0, set (bounds s).1 (extent (bounds s).1 - 1) false) (bounds s)
     removed_same e f = rw (t, extent_count) (f ∙ ap (λ (p : ℕ × List Bool). (p.0, set p.1 (s.count - 1) false)) e)
@@ -47,26 +47,24 @@ module _ (s : Store) (v : Held s) where
         (f ∙ ap (λ (y : List (List ℕ)). set y (s.count - 1) []) (rw z at e) ∙ set-set (set (model s) i (get_or (model s) (s.count - 1) [])) (s.count - 1) (get_or (model s) i []) [])
 
 -- j numbers more, behind all others
-pub record Taken (s s' : Store) (j : ℕ) : Type 0 where
-  pub sound : Sound s'
+pub record Taken (s s' : Layout) (j : ℕ) : Type 0 where
   pub half : s'.half ≡ s.half
   pub count : s'.count ≡ s.count + j
   pub total : s'.total ≡ s.total
-  pub live : lives s'.words.now s'.half s'.count ≡ marked (lives s.words.now s.half s.count) s.count j true
-  pub same : lists s'.words.now s'.half s'.count ≡ lists s.words.now s.half s.count
+  pub live : lives s'.words s'.half s'.count ≡ marked (lives s.words s.half s.count) s.count j true
+  pub same : lists s'.words s'.half s'.count ≡ lists s.words s.half s.count
   pub cost : spent s' ≤ spent s + 64 * j
 
-pub taken_none : (s : Store) → Sound s → Taken s s 0
+pub taken_none : (s : Layout) → Taken s s 0
 unfolding marked
-taken_none s v = record { sound = v; half = refl; count = omega arith; total = refl; live = refl; same = refl; cost = omega arith }
+taken_none s = record { half = refl; count = omega arith; total = refl; live = refl; same = refl; cost = omega arith }
 
-pub taken_more : (s s₁ s₂ : Store) (j : ℕ) → Taken s s₁ j → Sound s₂ → (s₂.count ≡ s₁.count + 1) × (s₂.total ≡ s₁.total) →
-    (s₂.half ≡ s₁.half) × (lives s₂.words.now s₂.half s₂.count ≡ set (lives s₁.words.now s₁.half s₁.count) s₁.count true) →
-    lists s₂.words.now s₂.half s₂.count ≡ lists s₁.words.now s₁.half s₁.count → spent s₂ ≤ spent s₁ + 64 → Taken s s₂ (j + 1)
+pub taken_more : (s s₁ s₂ : Layout) (j : ℕ) → Taken s s₁ j → (s₂.count ≡ s₁.count + 1) × (s₂.total ≡ s₁.total) →
+    (s₂.half ≡ s₁.half) × (lives s₂.words s₂.half s₂.count ≡ set (lives s₁.words s₁.half s₁.count) s₁.count true) →
+    lists s₂.words s₂.half s₂.count ≡ lists s₁.words s₁.half s₁.count → spent s₂ ≤ spent s₁ + 64 → Taken s s₂ (j + 1)
 unfolding marked
-taken_more s s₁ s₂ j t v n b l c =
+taken_more s s₁ s₂ j t n b l c =
     record {
-      sound = v;
       half = b.0 ∙ t.half;
       count = omega (arith, n.0, t.count);
       total = n.1 ∙ t.total;
@@ -76,30 +74,28 @@ taken_more s s₁ s₂ j t v n b l c =
     }
 
 -- all but the first j numbers of a block from `at` on have gone out, and k were there
-pub record Given (s s' : Store) (i at k j : ℕ) : Type 0 where
-  pub held : Held s'
+pub record Given (s s' : Layout) (i at k j : ℕ) : Type 0 where
   pub half : (bounds s').0 ≡ (bounds s).0
   pub live : marked (bounds s').1 at j false ≡ marked (bounds s).1 at k false
   pub same : replaced_block (model s') i at j ≡ replaced_block (model s) i at k
   pub front : Front (bounds s').1 (at + j)
   pub cost : spent s' ≤ spent s
 
-pub given_none : (s : Store) (i at k : ℕ) → Held s → Dense (bounds s).1 → at + k ≡ s.count → Given s s i at k k
+pub given_none : (s : Layout) (i at k : ℕ) → Held s → Dense (bounds s).1 → at + k ≡ s.count → Given s s i at k k
 given_none s i at k v d e =
     let z : at + k ≡ extent (bounds s).1 = e ∙ sym (extent_count s v) in
-    record { held = v; half = refl; live = refl; same = refl; front = rw z (dense_front (bounds s).1 d); cost = omega arith }
+    record { half = refl; live = refl; same = refl; front = rw z (dense_front (bounds s).1 d); cost = omega arith }
 
-pub given_step : (s s₁ s₂ : Store) (i at k j j' : ℕ) → Given s s₁ i at k j → j ≡ suc j' → i ≤ at → Held s₂ →
+pub given_step : (s s₁ s₂ : Layout) (i at k j j' : ℕ) → Given s s₁ i at k j → j ≡ suc j' → i ≤ at →
     bounds s₂ ≡ cond (get_or (bounds s₁).1 (i + j') false) ((bounds s₁).0, set (bounds s₁).1 (extent (bounds s₁).1 - 1) false) (bounds s₁) →
     model s₂ ≡ cond (get_or (bounds s₁).1 (i + j') false) (replaced (model s₁) (i + j') (extent (bounds s₁).1 - 1)) (model s₁) →
     spent s₂ ≤ spent s₁ → Given s s₂ i at k j'
-given_step s s₁ s₂ i at k j j' g q h v e f c =
+given_step s s₁ s₂ i at k j j' g q h e f c =
     let t = g.front.used (i + j') (omega arith) in
     let x : extent (bounds s₁).1 - 1 ≡ at + j' = omega (arith, front_extent (bounds s₁).1 (at + j) g.front) in
     let b = removed_bounds (bounds s₁) (bounds s₂) (i + j') (at + j') t x e in
     let l : (bounds s₂).1 ≡ set (bounds s₁).1 (at + j') false = ap (λ (p : ℕ × List Bool). p.1) b in
     record {
-      held = v;
       half = ap (λ (p : ℕ × List Bool). p.0) b ∙ g.half;
       live = given_live (bounds s₁).1 (bounds s₂).1 (marked (bounds s).1 at k false) at j j' q l g.live;
       same = given_lists (model s₁) (model s₂) (replaced_block (model s) i at k) i at j j' q (removed_model (bounds s₁).1 (model s₁) (model s₂) (i + j') (at + j') t x f) g.same;
@@ -107,10 +103,10 @@ given_step s s₁ s₂ i at k j j' g q h v e f c =
       cost = omega (arith, g.cost);
     }
 
-pub given_dense : (s s' : Store) (i at k j : ℕ) → Given s s' i at k j → Dense (bounds s').1
+pub given_dense : (s s' : Layout) (i at k j : ℕ) → Given s s' i at k j → Dense (bounds s').1
 given_dense s s' i at k j g = front_dense (bounds s').1 (at + j) g.front
 
-pub given_all : (s s' : Store) (i at k j : ℕ) → Given s s' i at k j → j ≤ 0 →
+pub given_all : (s s' : Layout) (i at k j : ℕ) → Given s s' i at k j → j ≤ 0 →
     (bounds s' ≡ ((bounds s).0, marked (bounds s).1 at k false)) × (model s' ≡ replaced_block (model s) i at k)
 unfolding marked replaced_block
 given_all s s' i at k j g h =

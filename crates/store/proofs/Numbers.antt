@@ -5,7 +5,7 @@ use Rattle.std.proofs.lemmas.List.{get_or-set_other, length-set, set-append_left
 use Rattle.std.proofs.lemmas.List.Sums.{sum_by_push}
 use Rattle.std.proofs.lemmas.Bool.{cases_eq, cases_lt, eq-eqb, ne_eqb, false≢true}
 use Rattle.segments.specs.Layout.{size, room, mark, segs, Exchanged, Opened, Marked, Retired, need, tense, strain}
-use Rattle.store.specs.Held.{lists, lives, Inv}
+use Rattle.store.specs.Layout.{lists, lives, Inv}
 use Rattle.segments.proofs.Table.{segs_at, length_segs, segs_past, marks_same, marks_at, marks_past}
 use Rattle.segments.proofs.Moves.{need_set}
 use Rattle.store.proofs.Totals.{padded_at, lists_at, lists_by, lives_by, lives_set, need_lists, live_is, dead_is, dead_past}

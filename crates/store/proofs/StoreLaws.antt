@@ -1,11 +1,11 @@
 -- What keeps a store in order.
-use Rattle.std.proofs.Common.{◌≡◌, ℕ, ◌+◌, ◌-◌, ◌*◌, ◌/◌, ◌<◌, ◌≤◌, Bool, true, false, ◌≢◌, ◌⊎◌, List, [], length, get_or, set, sym, ap, ◌∙◌, ap₂, inl, inr, ⊎_elim, arith, w64, Fits}
+use Rattle.std.proofs.Common.{◌≡◌, ℕ, ◌+◌, ◌-◌, ◌*◌, ◌/◌, ◌^◌, ◌<◌, ◌≤◌, Bool, true, false, ◌≢◌, ◌⊎◌, List, [], length, get_or, set, sym, ap, ◌∙◌, ap₂, inl, inr, ⊎_elim, arith, w64, Fits}
 use Rattle.std.proofs.lemmas.List.{get_or-set_same, get_or-set_other, set_past, set-get_or}
 use Rattle.std.proofs.lemmas.Bool.{cases_eq, cases_lt, le-leb, lt-leb, eqb-true, false≢true}
 use Rattle.segments.specs.Layout.{size, room, mark, segs, Good, Within, Changed, Moved, need, spread, tense, strain}
 use Rattle.store.specs.Sums.{extent, enough}
-use Rattle.store.specs.declared.Store.{Store}
-use Rattle.store.specs.Held.{lists, lives, Inv, Sound, Shifted}
+use Rattle.store.specs.Layout.{Layout, lists, lives, Inv}
+use Rattle.store.specs.Held.{Sound, Shifted}
 use Rattle.segments.proofs.Table.{length_segs, marks_same, marks_at, segs_past}
 use Rattle.segments.proofs.SegmentLaws.{len_is}
 use Rattle.segments.proofs.Moves.{need_set, need_at, spread_le}
@@ -226,21 +226,14 @@ late_tense len more r e = (omega arith, omega arith)
 pub stay_cost : (p st te len more ro x : ℕ) → te ≡ 5 * len - (4 * ro + 3) → x + te ≡ st + (5 * (len + more) - (4 * ro + 3)) → p + 13 * x ≤ p + 13 * st + 128 * more
 stay_cost p st te len more ro x t e = omega arith
 
--- the same lists have the same sizes
-pub size_by : (w w' : List ℕ) (n i : ℕ) → Good w n → Good w' n → segs w' n ≡ segs w n → i < n → size w' i ≡ size w i
-size_by w w' n i g g' e h = len_is w' n g' i h ∙ ap (λ (y : List (List ℕ)). length (get_or y i [])) e ∙ sym (len_is w n g i h)
-
-pub shifted_size : (s s' : Store) (i : ℕ) → Sound s → Shifted s s' → i < s.count → size s'.words.now i ≡ size s.words.now i
-shifted_size s s' i v z h = size_by s.words.now s'.words.now s.count i v.good (rw z.count at z.sound.good) z.same h
-
-pub shifted_trans : (s s₁ s₂ : Store) → Shifted s s₁ → Shifted s₁ s₂ → Shifted s s₂
+pub shifted_trans : (s s₁ s₂ : Layout) → Shifted s s₁ → Shifted s₁ s₂ → Shifted s s₂
 shifted_trans s s₁ s₂ a b =
     record {
-      sound = b.sound;
       half = b.half ∙ a.half;
       count = b.count ∙ a.count;
       total = b.total ∙ a.total;
       same = rw a.count at b.same ∙ a.same;
+      sizes = λ k h. b.sizes k (rw a.count h) ∙ a.sizes k h;
       used = λ k h. b.used k (rw a.count h) ∙ a.used k h;
     }
 
@@ -250,9 +243,9 @@ live_back w half n i e = ⊎_elim
     (λ (h : n ≤ i). absurd (false≢true (sym (dead_past w half n i h) ∙ e)))
     (cases_lt i n)
 
-pub sum_fits : (len more half l : ℕ) → len ≤ half → more ≤ half → half + half ≤ l → l < 2305843009213693952 →
-    Fits w64 (len + more + (len + more) / 2) × Fits w64 (len + more + (len + more) / 2 + 8)
-sum_fits len more half l a b c d = (omega arith, omega arith)
+pub sum_fits : (len more half : ℕ) → len ≤ half → more ≤ half → half < 2 ^ 60 →
+    Fits w64 (len + more) × Fits w64 (len + more + (len + more) / 2) × Fits w64 (len + more + (len + more) / 2 + 8)
+sum_fits len more half a b c = (omega arith, omega arith, omega arith)
 
 pub dead_empty : (w : List ℕ) (half n hi low total hint : ℕ) → Inv w half n hi low total hint → (i : ℕ) → get_or (lives w half n) i false ≡ false → get_or (lists w half n) i [] ≡ []
 dead_empty w half n hi low total hint v i e = ⊎_elim

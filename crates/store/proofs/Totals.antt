@@ -5,7 +5,7 @@ use Rattle.std.proofs.lemmas.List.Sums.{sum_by-append, sum_by-cons}
 use Rattle.std.proofs.lemmas.Bool.{cases_eq, cases_lt, or_right, lt-ltb, eq-eqb, ne_eqb}
 use Rattle.segments.specs.Layout.{mark, segs, marks, need}
 use Rattle.store.specs.Sums.{extent}
-use Rattle.store.specs.Held.{lists, lives}
+use Rattle.store.specs.Layout.{lists, lives}
 use Rattle.segments.proofs.Table.{length_segs, length_marks, marks_at, marks_past, segs_past}
 
 -- a list with values d behind it

@@ -2,24 +2,17 @@
 #![tactic(auto)]
 
 ghost use Rattle.std.specs.Prelude.{◌≡◌};
-ghost use Rattle.store.specs.Held.{Held};
 
 use store::{Store, store_in};
 
-fn open_lists(st: &mut Store, lists: usize)
-    requires { Held st.old }
-    ensures { Held st.new }
-{
+fn open_lists(st: &mut Store, lists: usize) {
     for _k in 0..lists {
         let _ = st.fresh();
     }
 }
 
 // Pushes `count` words, one list after another, and counts those that found room.
-fn grow(st: &mut Store, lists: usize, count: u32) -> u32
-    requires { Held st.old }
-    ensures { Held st.new }
-{
+fn grow(st: &mut Store, lists: usize, count: u32) -> u32 {
     let mut done: u32 = 0;
     let mut at = 0;
     for k in 0..count {
@@ -31,20 +24,14 @@ fn grow(st: &mut Store, lists: usize, count: u32) -> u32
     done
 }
 
-fn shrink(st: &mut Store, lists: usize, size: usize)
-    requires { Held st.old }
-    ensures { Held st.new }
-{
+fn shrink(st: &mut Store, lists: usize, size: usize) {
     for i in 0..lists {
         st.truncate(i, size);
     }
 }
 
 // What a machine does for a byte: asks how long a list is, reads its last word, puts a word behind it and another in its place, and cuts it again.
-fn touch(st: &mut Store, lists: usize, count: u32) -> u32
-    requires { Held st.old }
-    ensures { Held st.new }
-{
+fn touch(st: &mut Store, lists: usize, count: u32) -> u32 {
     let mut seen: u32 = 0;
     let mut at = 0;
     for k in 0..count {

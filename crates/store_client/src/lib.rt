@@ -6,7 +6,7 @@ ghost use Rattle.segments.specs.Layout.{need};
 ghost use Rattle.store.specs.declared.Refusal.TheVariants.{NoRoom};
 ghost use Rattle.store.specs.Sums.{extent};
 ghost use Rattle.store.specs.Dense.{Dense, in_use_count};
-ghost use Rattle.store.specs.Held.{model, bounds, Held};
+ghost use Rattle.store.specs.Held.{model, bounds};
 ghost use Rattle.store_client.specs.Turn.{top, rest, acted};
 
 use store::{Refusal, Store, store_in};
@@ -15,7 +15,6 @@ use store::{Refusal, Store, store_in};
 const BLOCK: usize = 3;
 
 pub fn last(st: &Store, i: usize) -> u32
-    requires { Held st.now }
     ensures { result ≡ top (slice_index_or (model st.now) i []) }
 {
     st.get(i, st.len(i).saturating_sub(1))
@@ -23,8 +22,6 @@ pub fn last(st: &Store, i: usize) -> u32
 
 // Two words more behind list i.
 pub fn push_pair(st: &mut Store, i: usize, a: u32, b: u32) -> Result<(), Refusal>
-    requires { Held st.old }
-    ensures held { Held st.new }
     ensures same { bounds st.new ≡ bounds st.old }
     ensures after { OnOk result (model st.new ≡ slice_set (model st.old) i (slice_index_or (model st.old) i [] ++ (a ∷ b ∷ []))) }
 {
@@ -33,8 +30,6 @@ pub fn push_pair(st: &mut Store, i: usize, a: u32, b: u32) -> Result<(), Refusal
 
 // Several reads and writes at different lists.
 pub fn mix(st: &mut Store) -> Result<u32, Refusal>
-    requires { Held st.old }
-    ensures held { Held st.new }
     ensures same { bounds st.new ≡ bounds st.old }
     ensures after { OnOk result (model st.new ≡ slice_set (slice_set (slice_set (model st.old) 1 (slice_index_or (model st.old) 1 [] ++ (slice_index (slice_index_or (model st.old) 0 []) 0 ∷ []))) 2 (slice_index_or (model st.old) 2 [] ++ (slice_index (slice_index_or (model st.old) 0 []) 1 ∷ []))) 3 []) }
 {
@@ -47,8 +42,6 @@ pub fn mix(st: &mut Store) -> Result<u32, Refusal>
 }
 
 pub fn act(st: &mut Store, op: u32) -> Result<bool, Refusal>
-    requires { Held st.old }
-    ensures held { Held st.new }
     ensures same { bounds st.new ≡ bounds st.old }
     ensures after { IfOk result (λ b. model st.new ≡ acted op (model st.old)) }
 {
@@ -73,8 +66,6 @@ pub fn act(st: &mut Store, op: u32) -> Result<bool, Refusal>
 }
 
 pub fn turn(st: &mut Store) -> Result<bool, Refusal>
-    requires { Held st.old }
-    ensures held { Held st.new }
     ensures same { bounds st.new ≡ bounds st.old }
     ensures after { IfOk result (λ b. model st.new ≡ acted (slice_index (slice_index_or (model st.old) 1 []) (slice_index (slice_index_or (model st.old) 2 []) 0)) (model st.old)) }
 {
@@ -85,9 +76,7 @@ pub fn turn(st: &mut Store) -> Result<bool, Refusal>
 
 // One word more in each of five lists; what that makes of the second.
 pub fn five(st: &mut Store) -> Result<(), Refusal>
-    requires held_2 { Held st.old }
     requires in_bounds { 9 < length (model st.old) }
-    ensures held { Held st.new }
     ensures same { bounds st.new ≡ bounds st.old }
     ensures after { IfOk result (λ b. slice_index_or (model st.new) 1 [] ≡ slice_index_or (model st.old) 1 [] ++ (7 ∷ [])) }
 {
@@ -101,9 +90,7 @@ pub fn five(st: &mut Store) -> Result<(), Refusal>
 
 // List 0 is written anew by way of the scratch list 1, v in front: then the two change places.
 pub fn rewrite(st: &mut Store, v: u32) -> Result<bool, Refusal>
-    requires held_2 { Held st.old }
     requires in_bounds { 9 < length (model st.old) }
-    ensures held { Held st.new }
     ensures same { bounds st.new ≡ bounds st.old }
     ensures after { IfOk result (λ b. b ≡ true → slice_index_or (model st.new) 0 [] ≡ (v ∷ []) ++ slice_index_or (model st.old) 0 []) }
 {
@@ -115,10 +102,7 @@ pub fn rewrite(st: &mut Store, v: u32) -> Result<bool, Refusal>
 }
 
 // A number is taken for a while.
-pub fn borrowed(st: &mut Store) -> bool
-    requires { Held st.old }
-    ensures held { Held st.new }
-{
+pub fn borrowed(st: &mut Store) -> bool {
     let Some(i) = st.fresh() else {
         return false;
     };
@@ -129,18 +113,14 @@ pub fn borrowed(st: &mut Store) -> bool
 
 // One word more; where there is no room for it, so few words were lent.
 pub fn push_or_few(st: &mut Store, i: usize, v: u32) -> Result<(), Refusal>
-    requires { Held st.old }
-    ensures held { Held st.new }
-    ensures few { result ≡ Err NoRoom → (all : ℕ) → (bounds st.old).0 ≡ all / 2 → all < 3 * need (model st.old) + 19 * extent (bounds st.old).1 + 4 * (length (slice_index_or (model st.old) i []) + 1) + 20 }
+    ensures { result ≡ Err NoRoom → (all : ℕ) → (bounds st.old).0 ≡ all / 2 → all < 3 * need (model st.old) + 19 * extent (bounds st.old).1 + 4 * (length (slice_index_or (model st.old) i []) + 1) + 20 }
 {
     st.push(i, v)
 }
 
 // One word more; where there is no room for it in a dense store, so few words were lent, by the words held and the lists in use.
 pub fn push_or_few_dense(st: &mut Store, i: usize, v: u32) -> Result<(), Refusal>
-    requires held_2 { Held st.old }
-    requires dense_2 { Dense (bounds st.old).1 }
-    ensures held { Held st.new }
+    requires dense { Dense (bounds st.old).1 }
     ensures dense { Dense (bounds st.new).1 }
     ensures few { result ≡ Err NoRoom → (all : ℕ) → (bounds st.old).0 ≡ all / 2 → all < 3 * need (model st.old) + 19 * in_use_count (bounds st.old).1 + 4 * (length (slice_index_or (model st.old) i []) + 1) + 20 }
 {
@@ -149,9 +129,7 @@ pub fn push_or_few_dense(st: &mut Store, i: usize, v: u32) -> Result<(), Refusal
 
 // A block of three lists for a new process, with its number in the first; None where there is no room for it.
 pub fn start(st: &mut Store, v: u32) -> Option<usize>
-    requires held_2 { Held st.old }
-    requires dense_2 { Dense (bounds st.old).1 }
-    ensures held { Held st.new }
+    requires dense { Dense (bounds st.old).1 }
     ensures dense { Dense (bounds st.new).1 }
     ensures begun { IfSome result (λ base. model st.new ≡ slice_set (model st.old) base (slice_index_or (model st.old) base [] ++ (v ∷ []))) }
 {
@@ -165,9 +143,7 @@ pub fn start(st: &mut Store, v: u32) -> Option<usize>
 
 // The process with the lists from `base` on ends. The answer is where the lists of another process stood, which stand there now.
 pub fn stop(st: &mut Store, base: usize) -> Option<usize>
-    requires held_2 { Held st.old }
-    requires dense_2 { Dense (bounds st.old).1 }
-    ensures held { Held st.new }
+    requires dense { Dense (bounds st.old).1 }
     ensures dense { Dense (bounds st.new).1 }
     ensures after { IfSome result (λ from. (base + 3 ≤ from → (q : ℕ) → q < 3 → slice_index_or (model st.new) (base + q) [] ≡ slice_index_or (model st.old) (from + q) [])) }
 {

@@ -2,7 +2,6 @@
 #![tactic(auto)]
 
 ghost use Rattle.std.specs.Prelude.{◌≡◌};
-ghost use Rattle.store.specs.Held.{Held};
 
 mod mirror;
 #[cfg(test)]
@@ -19,10 +18,7 @@ const TEXT: [u32; 24] = [
 ];
 
 // One step that makes lists longer, for the most part.
-fn rise(m: &mut Mirror, st: &mut Store, heap: Global) -> Result<(), AllocError>
-    requires { Held st.old }
-    ensures { Held st.new }
-{
+fn rise(m: &mut Mirror, st: &mut Store, heap: Global) -> Result<(), AllocError> {
     let i = m.pick(LISTS + 1);
     match m.pick_kind(8) {
         0 => {
@@ -55,10 +51,7 @@ fn rise(m: &mut Mirror, st: &mut Store, heap: Global) -> Result<(), AllocError>
 }
 
 // One step that makes lists shorter, for the most part.
-fn fall(m: &mut Mirror, st: &mut Store)
-    requires { Held st.old }
-    ensures { Held st.new }
-{
+fn fall(m: &mut Mirror, st: &mut Store) {
     let i = m.pick(LISTS + 1);
     let len = m.len(i);
     match m.pick_kind(6) {
@@ -74,10 +67,7 @@ fn fall(m: &mut Mirror, st: &mut Store)
 }
 
 // Fills and empties by turns.
-fn run(m: &mut Mirror, st: &mut Store, heap: Global, rounds: u32) -> Result<(), AllocError>
-    requires { Held st.old }
-    ensures { Held st.new }
-{
+fn run(m: &mut Mirror, st: &mut Store, heap: Global, rounds: u32) -> Result<(), AllocError> {
     for _k in 0..rounds {
         let up = m.pick(60);
         let down = m.pick(24);
@@ -88,20 +78,14 @@ fn run(m: &mut Mirror, st: &mut Store, heap: Global, rounds: u32) -> Result<(), 
     Ok(())
 }
 
-fn climb(m: &mut Mirror, st: &mut Store, heap: Global, steps: usize) -> Result<(), AllocError>
-    requires { Held st.old }
-    ensures { Held st.new }
-{
+fn climb(m: &mut Mirror, st: &mut Store, heap: Global, steps: usize) -> Result<(), AllocError> {
     for _k in 0..steps {
         rise(m, st, heap)?;
     }
     Ok(())
 }
 
-fn sink(m: &mut Mirror, st: &mut Store, steps: usize)
-    requires { Held st.old }
-    ensures { Held st.new }
-{
+fn sink(m: &mut Mirror, st: &mut Store, steps: usize) {
     for _k in 0..steps {
         fall(m, st);
     }

@@ -1,6 +1,5 @@
 // A `Vec<Vec<u32>>` beside a store, which has to say the same.
 ghost use Rattle.std.specs.Prelude.{◌≡◌, ◌≤◌};
-ghost use Rattle.store.specs.Held.{Held};
 
 use std::alloc::{AllocError, Global};
 use store::{Refusal, Store};
@@ -150,10 +149,7 @@ impl Mirror {
         self.check(same(want, got));
     }
 
-    pub fn push(&mut self, st: &mut Store, i: usize, v: u32) -> Result<(), AllocError>
-        requires { Held st.old }
-        ensures { Held st.new }
-    {
+    pub fn push(&mut self, st: &mut Store, i: usize, v: u32) -> Result<(), AllocError> {
         let len = self.len(i);
         let want = self.expected(i, len.wrapping_add(1));
         let moved = st.moved();
@@ -167,10 +163,7 @@ impl Mirror {
         Ok(())
     }
 
-    pub fn extend(&mut self, st: &mut Store, i: usize, xs: &[u32]) -> Result<(), AllocError>
-        requires { Held st.old }
-        ensures { Held st.new }
-    {
+    pub fn extend(&mut self, st: &mut Store, i: usize, xs: &[u32]) -> Result<(), AllocError> {
         let len = self.len(i);
         let want = self.expected(i, len.wrapping_add(xs.len()));
         let moved = st.moved();
@@ -190,10 +183,7 @@ impl Mirror {
         heap: Global,
         i: usize,
         j: usize,
-    ) -> Result<(), AllocError>
-        requires { Held st.old }
-        ensures { Held st.new }
-    {
+    ) -> Result<(), AllocError> {
         let len = self.len(i);
         let more = match self.lists.get(j) {
             Some(l) => Vec::from_slice(heap, l.as_slice())?,
@@ -211,10 +201,7 @@ impl Mirror {
         Ok(())
     }
 
-    pub fn pop(&mut self, st: &mut Store, i: usize)
-        requires { Held st.old }
-        ensures { Held st.new }
-    {
+    pub fn pop(&mut self, st: &mut Store, i: usize) {
         let got = st.pop(i);
         let mut want = None;
         if let Some(l) = self.lists.get_mut(i) {
@@ -224,10 +211,7 @@ impl Mirror {
         self.check(got == want);
     }
 
-    pub fn truncate(&mut self, st: &mut Store, i: usize, m: usize)
-        requires { Held st.old }
-        ensures { Held st.new }
-    {
+    pub fn truncate(&mut self, st: &mut Store, i: usize, m: usize) {
         st.truncate(i, m);
         if let Some(l) = self.lists.get_mut(i) {
             l.truncate(m);
@@ -235,10 +219,7 @@ impl Mirror {
         self.ops = self.ops.wrapping_add(1);
     }
 
-    pub fn set(&mut self, st: &mut Store, i: usize, j: usize, v: u32)
-        requires { Held st.old }
-        ensures { Held st.new }
-    {
+    pub fn set(&mut self, st: &mut Store, i: usize, j: usize, v: u32) {
         st.set(i, j, v);
         if let Some(l) = self.lists.get_mut(i) {
             if let Some(x) = l.get_mut(j) {
@@ -248,10 +229,7 @@ impl Mirror {
         self.ops = self.ops.wrapping_add(1);
     }
 
-    pub fn swap(&mut self, st: &mut Store, i: usize, j: usize)
-        requires { Held st.old }
-        ensures { Held st.new }
-    {
+    pub fn swap(&mut self, st: &mut Store, i: usize, j: usize) {
         let both = self.alive(i) && self.alive(j);
         let got = st.swap(i, j);
         if both && i < self.lists.len() && j < self.lists.len() {
@@ -270,10 +248,7 @@ impl Mirror {
         self.live.len()
     }
 
-    pub fn fresh(&mut self, st: &mut Store)
-        requires { Held st.old }
-        ensures { Held st.new }
-    {
+    pub fn fresh(&mut self, st: &mut Store) {
         let first = self.first_dead();
         if first >= LISTS {
             return;
@@ -294,20 +269,14 @@ impl Mirror {
         }
     }
 
-    pub fn free(&mut self, st: &mut Store, i: usize)
-        requires { Held st.old }
-        ensures { Held st.new }
-    {
+    pub fn free(&mut self, st: &mut Store, i: usize) {
         st.free(i);
         self.forget(i);
         self.ops = self.ops.wrapping_add(1);
     }
 
     // As many numbers in a row, behind the last in use.
-    pub fn fresh_block(&mut self, st: &mut Store, k: usize)
-        requires { Held st.old }
-        ensures { Held st.new }
-    {
+    pub fn fresh_block(&mut self, st: &mut Store, k: usize) {
         let first = self.extent();
         if first.wrapping_add(k) > LISTS {
             return;
@@ -324,10 +293,7 @@ impl Mirror {
     }
 
     // The last list in use takes the place of list i.
-    pub fn remove(&mut self, st: &mut Store, i: usize)
-        requires { Held st.old }
-        ensures { Held st.new }
-    {
+    pub fn remove(&mut self, st: &mut Store, i: usize) {
         let last = self.extent().wrapping_sub(1);
         let moves = self.alive(i) && i != last;
         let got = st.remove(i);
@@ -355,9 +321,7 @@ impl Mirror {
     }
 
     // Whether list i is the same in both, word for word.
-    fn agrees(&self, st: &Store, i: usize) -> bool
-        requires { Held st.now }
-    {
+    fn agrees(&self, st: &Store, i: usize) -> bool {
         let Some(l) = self.lists.get(i) else {
             return false;
         };
@@ -378,9 +342,7 @@ impl Mirror {
     }
 
     // Compares all lists.
-    pub fn compare(&mut self, st: &Store)
-        requires { Held st.now }
-    {
+    pub fn compare(&mut self, st: &Store) {
         for i in 0..LISTS {
             let right = self.agrees(st, i);
             self.check(right);

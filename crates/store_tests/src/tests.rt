@@ -1,6 +1,6 @@
 // Long runs in which numbers also come in blocks, and refusals at the exact word.
 ghost use Rattle.std.specs.Prelude.{◌≡◌};
-ghost use Rattle.store.specs.Held.{Held, bounds};
+ghost use Rattle.store.specs.Held.{bounds};
 ghost use Rattle.store.specs.Dense.{Dense};
 
 use super::mirror::Mirror;
@@ -104,7 +104,6 @@ fn fresh_refused_at_the_word(rt: HostRuntime) -> Result<(), Fail> {
 
 // Two blocks of two lists behind list 0; the last goes to the place of the first, and then goes out itself.
 fn two_blocks(rt: &impl Abort, st: &mut Store) -> Result<(), Fail>
-    requires held { Held st.old }
     requires dense { Dense (bounds st.old).1 }
 {
     assert_eq!(rt; st.fresh_block(5), Some(0));

@@ -67,9 +67,7 @@ abbrev mutual
   CoveredList (next a false l) = CoveredAndOr a × CoveredList l
 
 pub no_true : false ≡ true → ⊥
-no_true e =
-    let z : ◌≡◌ {A = ℕ} 0 1 = cc in
-    omega arith
+no_true e = cc
 
 pub both : (a b : Bool) → a && b ≡ true → (a ≡ true) × (b ≡ true)
 both true b e = (refl, e)

@@ -8,7 +8,7 @@ use Rattle.meaning.specs.System.{QuotedByte, Control}
 use Rattle.meaning.specs.Words.{close_word}
 use Rattle.meaning.specs.Step.{name_echo, name_cat, name_head, name_wc, name_grep, name_seq, name_rm, name_yes, name_true, name_false, name_test, name_read, name_exit, name_return, name_break, name_continue, name_shift, name_wait, initial}
 use Rattle.machine.specs.declared.names.BuiltinName.{BuiltinName}
-use Rattle.machine.specs.Encoding.{any_pattern}
+use Rattle.words.specs.Encoding.{any_pattern}
 use Rattle.machine.specs.Commands.{name_at, lacks}
 use Rattle.machine.specs.Promises.{beyond_command, Beyond, no_background, no_pipe, no_command, no_parameter, no_substitution, no_pattern, no_builtin}
 use Rattle.slice.specs.Slice.{left_out}

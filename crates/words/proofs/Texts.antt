@@ -1,12 +1,13 @@
 -- Words and text, encoded.
-use Rattle.std.proofs.Common.{◌≡◌, ℕ, zero, suc, ◌+◌, ◌-◌, ◌*◌, ◌%◌, ◌<◌, ◌≤◌, min, Bool, true, false, not, ◌&&◌, ◌||◌, eqb, leb, List, [], ◌∷◌, ◌++◌, length, get_or, take, drop, sym, refl, ap, ◌∙◌, subst, ⊎_elim, arith}
+use Rattle.std.proofs.Common.{◌≡◌, ℕ, zero, suc, ◌+◌, ◌-◌, ◌*◌, ◌%◌, ◌<◌, ◌≤◌, min, Bool, true, false, not, ◌&&◌, ◌||◌, eqb, leb, List, [], ◌∷◌, ◌++◌, length, get_or, take, drop, Ok, Result, sym, refl, ap, ◌∙◌, ⊎_elim, arith}
 use Rattle.std.proofs.lemmas.List.{append_assoc, append-nil, length-append, drop_more, take_more, drop_all, length-drop, get_or-set_other, drop_at, take_all, length-take, get_or-take}
-use Rattle.std.proofs.lemmas.Bool.{cases_lt}
+use Rattle.std.proofs.lemmas.Bool.{cases_lt, lt-leb, ne_eqb}
 use Rattle.syntax.specs.Base.{pick}
-use Rattle.reader.specs.Layout.{flag}
+use Rattle.code.specs.Layout.{flag}
 use Rattle.meaning.specs.System.{QuotedByte, File}
 use Rattle.meaning.specs.Words.{bytes_of, quote_bytes, has_pattern, all_pathnames, join_words}
 use Rattle.words.specs.Encoding.{encoded, coded, marked, plain, Bytes, Small, AllSmall, patterned, any_pattern, shown, rev, word_length, second}
+use Rattle.store.specs.declared.Refusal.{Refusal}
 use Rattle.words.specs.Pushed.{Pushed}
 use Rattle.words.proofs.Pushes.{push_more, differ}
 
@@ -23,8 +24,8 @@ pub coded_is : (q : Bool) (bs : List ℕ) → coded (flag q) bs ≡ encoded (quo
 coded_is q [] = refl
 coded_is q (b ∷ bs) = ap (λ z. (b + 256 * flag q) ∷ z) (coded_is q bs)
 
-pub coded_next : {b : ℕ × List Bool} {i : ℕ} {m m₁ m₂ : List (List ℕ)} (q : ℕ) (bs : List ℕ) (k : ℕ) {r : Bool} → k < length bs → Pushed b i m m₁ (coded q (take k bs)) true → Pushed b i m₁ m₂ ((get_or bs k 0 + 256 * q) ∷ []) r → Pushed b i m m₂ (coded q (take (k + 1) bs)) r
-coded_next q bs k l e f = rw (take_more bs k 0 l, coded_append q (take k bs) (get_or bs k 0 ∷ [])) (push_more e refl f)
+pub coded_next : {b : ℕ × List Bool} {i : ℕ} {m m₁ m₂ : List (List ℕ)} (q : ℕ) (bs : List ℕ) (k : ℕ) {u : Unit {0}} {r : Result (Unit {0}) Refusal} → k < length bs → Pushed b i m m₁ (coded q (take k bs)) (Ok u) → Pushed b i m₁ m₂ ((get_or bs k 0 + 256 * q) ∷ []) r → Pushed b i m m₂ (coded q (take (k + 1) bs)) r
+coded_next q bs k l e f = rw (take_more bs k 0 l, coded_append q (take k bs) (get_or bs k 0 ∷ [])) (push_more e f)
 
 pub coded_short : (q : ℕ) (bs : List ℕ) (k : ℕ) → length (coded q (take k bs)) ≤ length (coded q bs)
 coded_short q bs k = omega (arith, coded_length q (take k bs), coded_length q bs, shorter k bs)
@@ -34,30 +35,6 @@ coded_short q bs k = omega (arith, coded_length q (take k bs), coded_length q bs
     shorter (suc k) [] = omega arith
     shorter (suc k) (b ∷ bs) = omega (arith, shorter k bs)
 
--- patterns
-pub pattern_more : (ws : List ℕ) (k : ℕ) → k < length ws → patterned (drop k ws) ≡ ((eqb (get_or ws k 0) 42 || eqb (get_or ws k 0) 63) || patterned (drop (k + 1) ws))
-pattern_more ws k l = ap patterned (drop_more ws k 0 l)
-
-pub eqb_yes : (a b : ℕ) → a ≡ b → eqb a b ≡ true
-eqb_yes a b h = grind arith
-
-pub eqb_not : (a b : ℕ) → (a ≡ b → ⊥) → eqb a b ≡ false
-eqb_not a b h = grind arith
-
-or_true : (a : Bool) → (a || true) ≡ true
-or_true true = refl
-or_true false = refl
-
--- what was found at k
-pub pattern_here : (ws : List ℕ) (k v : ℕ) → k < length ws → patterned (drop k ws) ≡ patterned ws → get_or ws k 0 ≡ v → (eqb v 42 || eqb v 63) ≡ true → true ≡ patterned ws
-pattern_here ws k v l i e h = sym (sym i ∙ pattern_more ws k l ∙ rw (e, h))
-
-pub pattern_on : (ws : List ℕ) (k : ℕ) → k < length ws → patterned (drop k ws) ≡ patterned ws → (get_or ws k 0 ≡ 42 → ⊥) → (get_or ws k 0 ≡ 63 → ⊥) → patterned (drop (k + 1) ws) ≡ patterned ws
-pattern_on ws k l i e f = sym (pattern_more ws k l ∙ rw (eqb_not (get_or ws k 0) 42 e, eqb_not (get_or ws k 0) 63 f)) ∙ i
-
-pub pattern_none : (ws : List ℕ) (k : ℕ) → length ws ≤ k → patterned (drop k ws) ≡ patterned ws → false ≡ patterned ws
-pattern_none ws k l i = sym (sym i ∙ ap patterned (drop_all k ws l))
-
 or_assoc : (a b d : Bool) → ((a || b) || d) ≡ (a || (b || d))
 or_assoc true b d = refl
 or_assoc false b d = refl
@@ -66,7 +43,7 @@ one_pattern : (c : QuotedByte) → (eqb (c.byte + 256 * flag c.quoted) 42 || eqb
 one_pattern c = by c.byte c.quoted
   where
     by : (b : ℕ) (q : Bool) → (eqb (b + 256 * flag q) 42 || eqb (b + 256 * flag q) 63) ≡ (not q && (eqb b 42 || eqb b 63))
-    by b true = rw (eqb_not (b + 256 * 1) 42 (λ e. omega arith), eqb_not (b + 256 * 1) 63 (λ e. omega arith))
+    by b true = rw (ne_eqb (b + 256 * 1) 42 (λ e. omega arith), ne_eqb (b + 256 * 1) 63 (λ e. omega arith))
     by b false = let e : b + 256 * 0 ≡ b = omega arith in rw e
 
 pattern_append : (d : List QuotedByte) (r : List ℕ) → patterned (encoded d ++ r) ≡ (has_pattern d || patterned r)
@@ -90,19 +67,6 @@ all_plain fs (d ∷ ds) e = let h = neither (has_pattern d) (any_pattern ds) e i
 pub all_bytes : (s : List ℕ) → ((i : ℕ) → get_or s i 0 < 256) → Bytes s
 all_bytes [] h = tt
 all_bytes (b ∷ s) h = (h 0, all_bytes s (λ i. h (suc i)))
-
-bytes_drop : (n : ℕ) (s : List ℕ) → Bytes s → Bytes (drop n s)
-bytes_drop zero s h = h
-bytes_drop (suc n) [] h = tt
-bytes_drop (suc n) (b ∷ s) h = bytes_drop n s h.1
-
-bytes_take : (n : ℕ) (s : List ℕ) → Bytes s → Bytes (take n s)
-bytes_take zero s h = tt
-bytes_take (suc n) [] h = tt
-bytes_take (suc n) (b ∷ s) h = (h.0, bytes_take n s h.1)
-
-pub bytes_part : (n a : ℕ) (text s : List ℕ) → Bytes text → take n (drop a text) ≡ s → Bytes s
-bytes_part n a text s h e = subst Bytes e (bytes_take n (drop a text) (bytes_drop a text h))
 
 pub small_quoted : (q : Bool) (s : List ℕ) → Bytes s → Small (quote_bytes q s)
 small_quoted q [] h = tt
@@ -143,8 +107,8 @@ rev_push [] b = refl
 rev_push (x ∷ xs) b = ap (λ z. z ++ (x ∷ [])) (rev_push xs b)
 
 -- a list that another's pushes leave as it is
-pub left_alone : {b : ℕ × List Bool} {i j : ℕ} {m m₁ : List (List ℕ)} {y : List ℕ} {r : Bool} → j < i → Pushed b i m m₁ y r → r ≡ true → get_or m₁ j [] ≡ get_or m j []
-left_alone {i = i} {j = j} {m = m} {y = y} l p e = ap (λ z. get_or z j []) (p.yes e) ∙ get_or-set_other m i j (get_or m i [] ++ y) [] (omega arith)
+pub left_alone : {b : ℕ × List Bool} {i j : ℕ} {m m₁ : List (List ℕ)} {y : List ℕ} {u : Unit {0}} → j < i → Pushed b i m m₁ y (Ok u) → get_or m₁ j [] ≡ get_or m j []
+left_alone {i = i} {j = j} {m = m} {y = y} l p = ap (λ z. get_or z j []) p.ok ∙ get_or-set_other m i j (get_or m i [] ++ y) [] (omega arith)
 
 -- the part of a list from j up to n
 abbrev pub span : List ℕ → ℕ → ℕ → List ℕ
@@ -156,39 +120,23 @@ span_none V n = drop_all n (take n V) (omega (arith, length-take n V))
 pub span_length : (V : List ℕ) (i j n : ℕ) → i ≤ j → length (rev (shown (span V j n))) ≤ length (rev (shown (span V i n)))
 span_length V i j n h = omega (arith, rev_length (shown (span V j n)), shown_length (span V j n), length-drop j (take n V), rev_length (shown (span V i n)), shown_length (span V i n), length-drop i (take n V))
 
-pub back_on : {b : ℕ × List Bool} {f t : ℕ} {m m₁ m₂ : List (List ℕ)} (j n w v : ℕ) {r : Bool} → f < t → 0 < j → j ≤ n → n ≤ length (get_or m f []) → w ≡ get_or (get_or m₁ f []) (j - 1) 0 → v ≡ pick (leb 512 w) 32 (w % 256) → Pushed b t m m₁ (rev (shown (span (get_or m f []) j n))) true → Pushed b t m₁ m₂ (v ∷ []) r → Pushed b t m m₂ (rev (shown (span (get_or m f []) (j - 1) n))) r
+pub back_on : {b : ℕ × List Bool} {f t : ℕ} {m m₁ m₂ : List (List ℕ)} (j n w v : ℕ) {u : Unit {0}} {r : Result (Unit {0}) Refusal} → f < t → 0 < j → j ≤ n → n ≤ length (get_or m f []) → w ≡ get_or (get_or m₁ f []) (j - 1) 0 → v ≡ pick (leb 512 w) 32 (w % 256) → Pushed b t m m₁ (rev (shown (span (get_or m f []) j n))) (Ok u) → Pushed b t m₁ m₂ (v ∷ []) r → Pushed b t m m₂ (rev (shown (span (get_or m f []) (j - 1) n))) r
 back_on {f = f} {m = m} j n w v o z l k d e p q =
     let g : j - 1 + 1 ≡ j = omega arith in
-    let y : w ≡ get_or (take n (get_or m f [])) (j - 1) 0 = d ∙ ap (λ z. get_or z (j - 1) 0) (left_alone o p refl) ∙ sym (get_or-take n (get_or m f []) (j - 1) 0 (omega arith)) in
-    rw (drop_more (take n (get_or m f [])) (j - 1) 0 (omega (arith, length-take n (get_or m f []))), g, ← y, ← e) (push_more p refl q)
+    let y : w ≡ get_or (take n (get_or m f [])) (j - 1) 0 = d ∙ ap (λ z. get_or z (j - 1) 0) (left_alone o p) ∙ sym (get_or-take n (get_or m f []) (j - 1) 0 (omega arith)) in
+    rw (drop_more (take n (get_or m f [])) (j - 1) 0 (omega (arith, length-take n (get_or m f []))), g, ← y, ← e) (push_more p q)
 
-pub line_on : {b : ℕ × List Bool} {f t : ℕ} {m m₁ m₂ : List (List ℕ)} (i n : ℕ) {p r : Bool} → f < t → Pushed b t m m₁ (10 ∷ []) p → p ≡ true → Pushed b t m₁ m₂ (rev (shown (span (get_or m₁ f []) i n))) r → Pushed b t m m₂ (rev (shown (span (get_or m f []) i n) ++ (10 ∷ []))) r
-line_on {f = f} {m = m} i n o p e q = rw (rev_push (shown (span (get_or m f []) i n)) 10, ← left_alone o p e) (push_more p e q)
+pub line_on : {b : ℕ × List Bool} {f t : ℕ} {m m₁ m₂ : List (List ℕ)} (i n : ℕ) {u : Unit {0}} {r : Result (Unit {0}) Refusal} → f < t → Pushed b t m m₁ (10 ∷ []) (Ok u) → Pushed b t m₁ m₂ (rev (shown (span (get_or m₁ f []) i n))) r → Pushed b t m m₂ (rev (shown (span (get_or m f []) i n) ++ (10 ∷ []))) r
+line_on {f = f} {m = m} i n o p q = rw (rev_push (shown (span (get_or m f []) i n)) 10, ← left_alone o p) (push_more p q)
 
 pub line_length : (V : List ℕ) (i n : ℕ) → 1 ≤ length (rev (shown (span V i n) ++ (10 ∷ [])))
 line_length V i n = omega (arith, rev_length (shown (span V i n) ++ (10 ∷ [])), length-append (shown (span V i n)) (10 ∷ []))
 
--- the length of a word
-leb_yes : (w : ℕ) → 512 ≤ w → leb 512 w ≡ true
-leb_yes w h = grind arith
+pub low : (b : ℕ) (q : Bool) → b < 256 → leb 512 (b + 256 * flag q) ≡ false
+low b true h = lt-leb 512 (b + 256 * 1) (omega arith)
+low b false h = lt-leb 512 (b + 256 * 0) (omega arith)
 
-leb_not : (w : ℕ) → w < 512 → leb 512 w ≡ false
-leb_not w h = grind arith
-
-pub word_here : (ws : List ℕ) (i : ℕ) → i < length ws → 512 ≤ get_or ws i 0 → word_length ws ≡ i + word_length (drop i ws) → i ≡ word_length ws
-word_here ws i l h e = sym (e ∙ ap (λ z. i + word_length z) (drop_more ws i 0 l) ∙ rw (leb_yes (get_or ws i 0) h) (omega arith))
-
-pub word_on : (ws : List ℕ) (i : ℕ) → i < length ws → get_or ws i 0 < 512 → word_length ws ≡ i + word_length (drop i ws) → word_length ws ≡ i + 1 + word_length (drop (i + 1) ws)
-word_on ws i l h e = e ∙ ap (λ z. i + word_length z) (drop_more ws i 0 l) ∙ rw (leb_not (get_or ws i 0) h) (omega arith)
-
-pub word_ends : (ws : List ℕ) (i : ℕ) → length ws ≡ i → word_length ws ≡ i + word_length (drop i ws) → length ws ≡ word_length ws
-word_ends ws i l e = l ∙ sym (e ∙ ap (λ z. i + word_length z) (drop_all i ws (omega arith)) ∙ omega arith)
-
-low : (b : ℕ) (q : Bool) → b < 256 → leb 512 (b + 256 * flag q) ≡ false
-low b true h = leb_not (b + 256 * 1) (omega arith)
-low b false h = leb_not (b + 256 * 0) (omega arith)
-
-byte_is : (b : ℕ) (q : Bool) → b < 256 → (b + 256 * flag q) % 256 ≡ b
+pub byte_is : (b : ℕ) (q : Bool) → b < 256 → (b + 256 * flag q) % 256 ≡ b
 byte_is b true h = omega arith
 byte_is b false h = omega arith
 

@@ -2,7 +2,7 @@
 use Rattle.std.specs.Prelude.{ℕ, ◌+◌, ◌*◌, ◌%◌, ◌<◌, Bool, true, false, not, ◌&&◌, ◌||◌, List, [], ◌∷◌, ◌++◌, drop, ◌==◌, nat_le, slice_index}
 use Rattle.std.proofs.Math.Option.{Option, some, none}
 use Rattle.syntax.specs.Base.{pick}
-use Rattle.reader.specs.Layout.{flag}
+use Rattle.code.specs.Layout.{flag}
 use Rattle.meaning.specs.System.{QuotedByte}
 use Rattle.meaning.specs.Words.{bytes_of, has_pattern}
 

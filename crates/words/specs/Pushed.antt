@@ -1,6 +1,7 @@
 -- What pushing words onto a list of a store leaves, or a refusal says.
-use Rattle.std.specs.Prelude.{◌≡◌, ℕ, ◌+◌, ◌*◌, ◌<◌, Bool, true, false, List, [], ◌++◌, length, slice_index_or, slice_set}
+use Rattle.std.specs.Prelude.{◌≡◌, ℕ, ◌+◌, ◌*◌, ◌<◌, Bool, true, false, List, [], ◌++◌, length, slice_index_or, slice_set, Result, OnOk, OnErr}
 use Rattle.segments.specs.Layout.{need}
+use Rattle.store.specs.declared.Refusal.{Refusal}
 use Rattle.store.specs.Sums.{extent}
 
 -- half of the words lent are too few for n words in lists
@@ -8,6 +9,6 @@ abbrev pub Scarce : ℕ × List Bool → ℕ → Type 0
 Scarce b n = 7 * b.0 < 24 * n + 64 * extent b.1 + 64
 
 -- y is behind list i, or was refused
-pub record Pushed (b : ℕ × List Bool) (i : ℕ) (m m' : List (List ℕ)) (y : List ℕ) (r : Bool) : Type 0 where
-  pub yes : r ≡ true → m' ≡ slice_set m i (slice_index_or m i [] ++ y)
-  pub no : r ≡ false → slice_index_or b.1 i false ≡ true → Scarce b (need m + length y)
+pub record Pushed (b : ℕ × List Bool) (i : ℕ) (m m' : List (List ℕ)) (y : List ℕ) (r : Result (Unit {0}) Refusal) : Type 0 where
+  pub ok : OnOk r (m' ≡ slice_set m i (slice_index_or m i [] ++ y))
+  pub err : OnErr r (slice_index_or b.1 i false ≡ true → Scarce b (need m + length y))

@@ -2,10 +2,10 @@
 #![tactic(auto)]
 
 ghost use Rattle.std.specs.Prelude.{◌≡◌, ℕ, ◌+◌, ◌-◌, ◌*◌, ◌<◌, ◌≤◌, List, [], ◌∷◌, ◌++◌, length, slice_index_or};
-ghost use Rattle.store.specs.Held.{model, bounds, Held};
+ghost use Rattle.store.specs.Held.{model, bounds};
 ghost use Rattle.words.specs.Pushed.{Pushed};
 
-use store::Store;
+use store::{Refusal, Store};
 
 /// Before each word of a list of words.
 pub const MARK: u32 = 512;
@@ -14,27 +14,17 @@ pub const MARK: u32 = 512;
 pub const QUOTED: u32 = 256;
 
 /// The words ws behind list i, or a refusal.
-pub fn extend(st: &mut Store, i: usize, ws: &[u32]) -> bool
-    requires { Held st.old }
-    ensures held { Held st.new }
+pub fn extend(st: &mut Store, i: usize, ws: &[u32]) -> Result<(), Refusal>
     ensures same { bounds st.new ≡ bounds st.old }
     ensures says { Pushed (bounds st.old) i (model st.old) (model st.new) ws.now result }
 {
-    match st.extend(i, ws) {
-        Ok(()) => true,
-        Err(_) => false,
-    }
+    st.extend(i, ws)
 }
 
 /// List j behind list i, or a refusal.
-pub fn append(st: &mut Store, i: usize, j: usize) -> bool
-    requires { Held st.old }
-    ensures held { Held st.new }
+pub fn append(st: &mut Store, i: usize, j: usize) -> Result<(), Refusal>
     ensures same { bounds st.new ≡ bounds st.old }
     ensures says { Pushed (bounds st.old) i (model st.old) (model st.new) (slice_index_or (model st.old) j []) result }
 {
-    match st.append(i, j) {
-        Ok(()) => true,
-        Err(_) => false,
-    }
+    st.append(i, j)
 }

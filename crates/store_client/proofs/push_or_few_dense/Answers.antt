@@ -9,7 +9,6 @@ returns c =
     let s = c.args.st.now in
     let e = c.push.ensures in
     record {
-      held = e.held;
-      dense = dense_by _ _ (ap (λ (p : ℕ × List Bool). p.1) e.same) c.requires.dense_2;
-      few = λ r all q. few_for_words all (bounds s) (model s) c.args.i (length (get_or (model s) c.args.i []) + 1) q c.requires.dense_2 (sym e.says ∙ r);
+      dense = dense_by _ _ (ap (λ (p : ℕ × List Bool). p.1) e.same) c.requires.dense;
+      few = λ r all q. few_for_words all (bounds s) (model s) c.args.i (length (get_or (model s) c.args.i []) + 1) q c.requires.dense (sym e.says ∙ r);
     }

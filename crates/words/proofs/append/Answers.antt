@@ -1,6 +1,6 @@
 use Rattle.std.proofs.Common.{rules}
-use Rattle.words.proofs.Pushes.{push_no}
+use Rattle.words.proofs.Pushes.{pushed}
 use Rattle.words.proofs.append.Goals as goal
 
-pub returns-in-Err : goal.returns-in-Err
-returns-in-Err c = record { held = search rules; same = search rules; says = push_no c.in-Err.field-0 c.in-Err.ensures.says }
+pub returns : goal.returns
+returns c = record { same = search rules; says = pushed c.append.result c.append.ensures.after c.append.ensures.says }

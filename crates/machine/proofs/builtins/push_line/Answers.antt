@@ -1,11 +1,14 @@
-use Rattle.std.proofs.Common.{[], get_or, rules}
+use Rattle.std.proofs.Common.{[], get_or}
+use Rattle.std.proofs.lemmas.Result.{err_from_is_err_and}
 use Rattle.store.specs.Held.{model}
-use Rattle.machine.proofs.Pushes.{push_fails}
-use Rattle.machine.proofs.Texts.{line_on, line_length}
+use Rattle.words.proofs.Pushes.{push_fails}
+use Rattle.words.proofs.Texts.{line_on, line_length}
 use Rattle.machine.proofs.builtins.push_line.Goals as goal
 
-pub returns-then-not-extend : goal.returns-then-not-extend
-returns-then-not-extend c = record { held = search rules; same = search rules; says = push_fails _ c.extend.ensures.says c.if-not-extend.true (line_length (get_or (model c.args.st.now) c.args.from []) c.args.low c.args.high) }
+pub returns-in_err-extend-clause-says : goal.returns-in_err-extend-clause-says
+returns-in_err-extend-clause-says c =
+    let p = err_from_is_err_and c.from_residual.result c.from_residual.ensures.1 in
+    rw p.1 (push_fails _ c.in_err-extend.ensures.says (line_length (get_or (model c.args.st.now) c.args.from []) c.args.low c.args.high))
 
-pub returns : goal.returns
-returns c = record { held = search rules; same = search rules; says = line_on c.args.low c.args.high c.requires.from_lt_to c.extend.ensures.says c.if-not-extend.false (rw c.extend.ensures.same at c.push_reversed.ensures.says) }
+pub returns-clause-says : goal.returns-clause-says
+returns-clause-says c = line_on c.args.low c.args.high c.requires.lists c.in_ok-extend.ensures.says (rw c.extend.ensures.same at c.push_reversed.ensures.says)

@@ -1,11 +1,12 @@
-use Rattle.std.proofs.Common.{◌≡◌, ◌≤◌, true, [], get_or, take, drop}
-use Rattle.store.specs.Held.{model, bounds, Held}
-use Rattle.machine.specs.Encoding.{shown, rev}
-use Rattle.machine.specs.Promises.{Pushed}
+use Rattle.std.proofs.Common.{◌≡◌, ◌≤◌, [], get_or, take, drop, Ok}
+use Rattle.store.specs.Held.{model, bounds}
+use Rattle.words.specs.Encoding.{shown, rev}
+use Rattle.words.specs.Pushed.{Pushed}
 use Rattle.machine.proofs.builtins.push_reversed.Given as goal
 
 abbrev pub invariant-loop-j : goal.invariant-loop-j
-invariant-loop-j l = Held l.st × (bounds l.st ≡ bounds l.initial.st) × (l.low ≤ l.j) × (l.j ≤ l.high) × Pushed (bounds l.initial.st) l.to (model l.initial.st) (model l.st) (rev (shown (drop l.j (take l.high (get_or (model l.initial.st) l.from []))))) true
-
-abbrev pub decreases-loop-j : goal.decreases-loop-j
-decreases-loop-j l = l.j
+invariant-loop-j l = record {
+  above : l.low ≤ l.j;
+  same : bounds l.st ≡ bounds l.initial.st;
+  pushed : Pushed (bounds l.initial.st) l.to (model l.initial.st) (model l.st) (rev (shown (drop l.j (take l.high (get_or (model l.initial.st) l.from []))))) (Ok tt);
+}

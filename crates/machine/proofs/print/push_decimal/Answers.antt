@@ -1,16 +1,13 @@
-use Rattle.std.proofs.Common.{refl, ◌∙◌, arith, rules}
-use Rattle.machine.proofs.Pushes.{push_nil}
-use Rattle.machine.proofs.Decimals.{digits_none, digits_next, digits_fails, digits_last}
+use Rattle.std.proofs.Common.{◌∙◌, arith}
+use Rattle.std.proofs.lemmas.Result.{err_from_is_err_and}
+use Rattle.machine.proofs.Decimals.{digits_next, digits_fails, digits_last}
 use Rattle.machine.proofs.print.push_decimal.Goals as goal
 
-pub loop-rest-init : goal.loop-rest-init
-loop-rest-init c = (c.requires, refl, digits_none c.args.n push_nil)
-
-pub returns-then-not-extend : goal.returns-then-not-extend
-returns-then-not-extend c = let i = c.loop-rest.invariant in record { held = search rules; same = search rules; says = digits_fails i.2 (omega arith) (rw i.1 at c.extend.ensures.says) c.if-not-extend.true }
+pub returns-in_err-extend-clause-says : goal.returns-in_err-extend-clause-says
+returns-in_err-extend-clause-says c = let i = c.loop-rest.invariant in let p = err_from_is_err_and c.from_residual.result c.from_residual.ensures.1 in rw p.1 (digits_fails i.digits (omega arith) (rw i.same at c.in_err-extend.ensures.says))
 
 pub loop-rest-preserved : goal.loop-rest-preserved
-loop-rest-preserved c = let i = c.loop-rest.invariant in (c.extend.ensures.held, c.extend.ensures.same ∙ i.1, digits_next i.2 (omega arith) (rw (i.1, c.if-not-extend.false) at c.extend.ensures.says))
+loop-rest-preserved c = let i = c.loop-rest.invariant in record { same = c.extend.ensures.same ∙ i.same; digits = digits_next i.digits (omega arith) (rw i.same at c.in_ok-extend.ensures.says) }
 
-pub returns : goal.returns
-returns c = let i = c.loop-rest.invariant in record { held = search rules; same = c.extend-2.ensures.same ∙ i.1; says = digits_last i.2 (omega arith) (rw i.1 at c.extend-2.ensures.says) }
+pub returns-clause-says : goal.returns-clause-says
+returns-clause-says c = let i = c.loop-rest.invariant in digits_last i.digits (omega arith) (rw i.same at c.extend-2.ensures.says)

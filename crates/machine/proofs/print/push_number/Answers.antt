@@ -1,10 +1,12 @@
-use Rattle.std.proofs.Common.{rules}
-use Rattle.machine.proofs.Pushes.{push_fails}
+use Rattle.std.proofs.lemmas.Result.{err_from_is_err_and}
+use Rattle.words.proofs.Pushes.{push_fails}
 use Rattle.machine.proofs.Decimals.{decimal_line, line_longer}
 use Rattle.machine.proofs.print.push_number.Goals as goal
 
-pub returns-then-not-extend : goal.returns-then-not-extend
-returns-then-not-extend c = record { held = search rules; same = search rules; says = push_fails _ c.extend.ensures.says c.if-not-extend.true (line_longer c.args.n) }
+pub returns-in_err-extend-clause-says : goal.returns-in_err-extend-clause-says
+returns-in_err-extend-clause-says c =
+    let p = err_from_is_err_and c.from_residual.result c.from_residual.ensures.1 in
+    rw p.1 (push_fails _ c.in_err-extend.ensures.says (line_longer c.args.n))
 
-pub returns : goal.returns
-returns c = record { held = search rules; same = search rules; says = decimal_line c.args.n c.extend.ensures.says c.if-not-extend.false (rw c.extend.ensures.same at c.push_decimal.ensures.says) }
+pub returns-clause-says : goal.returns-clause-says
+returns-clause-says c = decimal_line c.args.n c.in_ok-extend.ensures.says (rw c.extend.ensures.same at c.push_decimal.ensures.says)

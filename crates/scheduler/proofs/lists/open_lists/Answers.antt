@@ -7,4 +7,4 @@ pub loop-j-preserved : goal.loop-j-preserved
 loop-j-preserved c =
     let i = c.loop-j.invariant in
     let s = rw c.if-is_none.ensures at c.fresh.ensures.same in
-    (c.fresh.ensures.held, ap (λ b. b.0) s ∙ i.1, ap (λ b. b.1) s ∙ opened_more (bounds c.loop-j.st).1 c.loop-j.j (bounds c.args.st.now).0 i.2 (omega arith), c.fresh.ensures.after ∙ i.3)
+    record { half = ap (λ b. b.0) s ∙ i.half; live = ap (λ b. b.1) s ∙ opened_more (bounds c.loop-j.st).1 c.loop-j._j (bounds c.args.st.now).0 i.live (omega arith); after = c.fresh.ensures.after ∙ i.after }

@@ -1,6 +1,7 @@
 use Rattle.std.proofs.Common.{ℕ, ◌<◌, Bool, false, List, [], length, get_or, set, sym, ap, ◌∙◌, ap₂, arith}
 use Rattle.std.proofs.lemmas.List.{get_or-set_same}
-use Rattle.store.specs.Held.{lists, lives, Held, bounds, model}
+use Rattle.store.specs.Layout.{lists, lives}
+use Rattle.store.specs.Held.{Held, bounds, model}
 use Rattle.store.proofs.Totals.{lists_at, length_lists}
 use Rattle.store.proofs.StoreLaws.{few, live_back, dead_empty, set_same}
 use Rattle.store.proofs.Store.free.Goals as goal
@@ -9,11 +10,10 @@ pub returns-then-not-in_use : goal.returns-then-not-in_use
 unfolding Held bounds model
 returns-then-not-in_use c =
     let s = c.args.self.now in
-    let e = sym c.if-not-in_use.ensures in
+    let e = sym c.if-not-in_use.ensures.says in
     record {
-      held = c.requires;
-      same = ap (λ (y : List Bool). (s.half, y)) (set_same (lives s.words.now s.half s.count) c.args.i false false e);
-      after = set_same (lists s.words.now s.half s.count) c.args.i [] [] (dead_empty _ _ _ _ _ _ _ c.requires c.args.i e);
+      same = ap (λ (y : List Bool). (s.half, y)) (set_same (lives s.words s.half s.count) c.args.i false false e);
+      after = set_same (lists s.words s.half s.count) c.args.i [] [] (dead_empty _ _ _ _ _ _ _ c.in_use.ensures.held c.args.i e);
       cost = omega arith;
     }
 
@@ -24,18 +24,18 @@ release-requires c =
     let u = c.clear.new.self in
     let i = c.args.i in
     let e = c.clear.ensures in
-    let a = live_back s.words.now s.half s.count i (sym c.if-not-in_use.ensures) in
-    let b = live_back u.words.now u.half u.count i (ap (λ (p : ℕ × List Bool). get_or p.1 i false) e.same ∙ sym c.if-not-in_use.ensures) in
-    let l : i < length (lists s.words.now s.half s.count) = omega (arith, a.0, few _ _ _ _ _ _ _ c.requires, length_lists s.words.now s.half s.count (few _ _ _ _ _ _ _ c.requires)) in
-    record { sound_2 = e.held; i_lt_count = b.0; i_value = sym (lists_at u.words.now u.half u.count i) ∙ ap (λ (y : List (List ℕ)). get_or y i []) e.after ∙ get_or-set_same (lists s.words.now s.half s.count) i [] [] l }
+    let v = c.in_use.ensures.held in
+    let a = live_back s.words s.half s.count i (sym c.if-not-in_use.ensures.says) in
+    let b = live_back u.words u.half u.count i (ap (λ (p : ℕ × List Bool). get_or p.1 i false) e.same ∙ sym c.if-not-in_use.ensures.says) in
+    let l : i < length (lists s.words s.half s.count) = omega (arith, a.0, few _ _ _ _ _ _ _ v, length_lists s.words s.half s.count (few _ _ _ _ _ _ _ v)) in
+    record { i_lt_count = b.0; i_value = sym (lists_at u.words u.half u.count i) ∙ ap (λ (y : List (List ℕ)). get_or y i []) e.after ∙ get_or-set_same (lists s.words s.half s.count) i [] [] l }
 
 pub returns : goal.returns
-unfolding Held bounds model
+unfolding bounds model
 returns c =
     let e = c.clear.ensures in
     let f = c.release.ensures in
     record {
-      held = f.sound;
       same = ap₂ (λ (h : ℕ) (y : List Bool). (h, y)) (f.bounds.0 ∙ ap (λ (p : ℕ × List Bool). p.0) e.same) (f.bounds.1 ∙ ap (λ (p : ℕ × List Bool). set p.1 c.args.i false) e.same);
       after = f.same ∙ e.after;
       cost = omega (arith, e.cost, f.cost);

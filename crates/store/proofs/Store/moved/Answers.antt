@@ -4,4 +4,4 @@ use Rattle.store.proofs.Store.moved.Goals as goal
 
 pub returns : goal.returns
 unfolding shifts spent
-returns c = record { is = refl; paid = omega arith }
+returns c = rw (← c.self.view_is) (record { is = refl; paid = omega arith })

@@ -1,41 +1,29 @@
-use Rattle.std.proofs.Common.{[], ◌∷◌, refl, ap, arith}
-use Rattle.store.specs.Held.{Held, bounds, model, spent}
+use Rattle.store.specs.Fields.{fields}
+use Rattle.std.proofs.Common.{[], ◌∷◌, length, refl, ap, arith}
+use Rattle.store.specs.Held.{Sound, Reserved, bounds, model, spent}
 use Rattle.store.proofs.Growth.{grew_inv, grew_model, grew_bounds, grew_cost}
 use Rattle.store.proofs.Store.push.Goals as goal
 
-pub returns-in-Err : goal.returns-in-Err
-unfolding Held bounds model spent
-returns-in-Err c =
-    let e = c.in-Err.ensures.after in
-    record {
-      held = rw e c.requires;
-      same = ap bounds e;
-      after = ap model e;
-      says = c.in-Err.ensures.says;
-      cost = omega (arith, ap spent e);
-    }
-
-pub append_word-requires : goal.append_word-requires
-append_word-requires c =
-    let z = c.in_default.ensures.after in
-    record { good = z.shifted.sound.good; i_lt_n = omega (arith, z.there, z.shifted.count); i_bound = omega (arith, z.room) }
-
-pub overflow_add-self : goal.overflow_add-self
-overflow_add-self c =
-    let z = c.in_default.ensures.after in
-    omega (arith, z.spare, z.shifted.total, z.shifted.half, z.shifted.sound.long)
+pub invariant_of-self : goal.invariant_of-self
+invariant_of-self c =
+    let s = c.args.self.now in
+    let u = fields c.self.inside in
+    let v : Sound u = c.self.invariant in
+    let xs = c.args.v ∷ [] in
+    let z : Reserved s u c.args.i (length xs) = rw (← c.self.view_is) at c.in_ok-reserve.ensures.after in
+    grew_inv s u c.args.i xs v z _ c.append_word.ensures c.append_word.auto.w _ refl
 
 pub returns : goal.returns
-unfolding Held bounds model spent
+unfolding bounds model spent
 returns c =
     let s = c.args.self.now in
-    let u = c.reserve.new.self in
+    let u = fields c.self.inside in
+    let v : Sound u = c.self.invariant in
     let xs = c.args.v ∷ [] in
-    let z = c.in_default.ensures.after in
+    let z : Reserved s u c.args.i (length xs) = rw (← c.self.view_is) at c.in_ok-reserve.ensures.after in
     record {
-      held = grew_inv s u c.args.i xs c.requires z _ c.append_word.ensures c.append_word.auto.w _ refl;
-      same = grew_bounds s u c.args.i xs c.requires z _ c.append_word.ensures c.append_word.auto.w;
-      after = grew_model s u c.args.i xs c.requires z _ c.append_word.ensures c.append_word.auto.w;
-      says = c.in_default.ensures.says;
-      cost = grew_cost s u c.args.i xs c.requires z _ c.append_word.ensures c.append_word.auto.w;
+      same = grew_bounds s u c.args.i xs v z _ c.append_word.ensures c.append_word.auto.w;
+      after = grew_model s u c.args.i xs v z _ c.append_word.ensures c.append_word.auto.w;
+      says = c.in_ok-reserve.ensures.says;
+      cost = grew_cost s u c.args.i xs v z _ c.append_word.ensures c.append_word.auto.w;
     }

@@ -1,39 +1,44 @@
-use Rattle.std.proofs.Common.{◌+◌, sym, arith}
+use Rattle.store.specs.Fields.{fields}
+use Rattle.std.proofs.Common.{◌≡◌, ◌+◌, ◌-◌, sym, ap, arith}
 use Rattle.std.proofs.lemmas.Bool.{lt-ltb, le-ltb}
+use Rattle.store.specs.Layout.{Layout}
 use Rattle.store.proofs.Blocks.{extent_count, in_table, removed_same, removed_dense, removed_after}
 use Rattle.store.proofs.Store.remove.Goals as goal
 
 pub overflow_sub-last : goal.overflow_sub-last
-overflow_sub-last c = omega (arith, in_table c.args.self.now c.requires c.args.i (sym c.if-not-in_use.ensures))
+overflow_sub-last c =
+    let v = rw (← c.self.view_is) at c.in_use.ensures.held in
+    let t = rw (← c.self.view_is) at c.if-not-in_use.ensures.says in
+    omega (arith, in_table (fields c.self.inside) v c.args.i (sym t))
 
 pub returns-then-i-last : goal.returns-then-i-last
 returns-then-i-last c =
-    let s = c.args.self.now in
+    let s = fields c.self.inside in
     let i = c.args.i in
-    let t = sym c.if-not-in_use.ensures in
-    let e = c.swap.ensures in
+    let v = rw (← c.self.view_is) at c.in_use.ensures.held in
+    let t = sym (rw (← c.self.view_is) at c.if-not-in_use.ensures.says) in
+    let e = rw (← c.self.view_is) at c.swap.ensures in
     let f = c.free.ensures in
-    record {
-      held = f.held;
-      dense = removed_dense s c.requires i t _ _ e.same f.same;
-      same = removed_same s c.requires i t _ _ e.same f.same;
-      after = removed_after s c.requires i t _ _ _ e.says e.after f.after;
-      says = rw (t, extent_count s c.requires, lt-ltb (i + 1) s.count (omega (arith, c.if-i-last.true)));
+    rw (← c.self.view_is) (record {
+      dense = removed_dense s v i t _ _ e.same f.same;
+      same = removed_same s v i t _ _ e.same f.same;
+      after = removed_after s v i t _ _ _ e.says e.after f.after;
+      says = rw (t, extent_count s v, lt-ltb (i + 1) s.count (omega (arith, c.if-i-last.true)));
       cost = omega (arith, e.cost, f.cost);
-    }
+    })
 
 pub returns : goal.returns
 returns c =
-    let s = c.args.self.now in
+    let s = fields c.self.inside in
     let i = c.args.i in
-    let t = sym c.if-not-in_use.ensures in
-    let e = c.swap.ensures in
+    let v = rw (← c.self.view_is) at c.in_use.ensures.held in
+    let t = sym (rw (← c.self.view_is) at c.if-not-in_use.ensures.says) in
+    let e = rw (← c.self.view_is) at c.swap.ensures in
     let f = c.free.ensures in
-    record {
-      held = f.held;
-      dense = removed_dense s c.requires i t _ _ e.same f.same;
-      same = removed_same s c.requires i t _ _ e.same f.same;
-      after = removed_after s c.requires i t _ _ _ e.says e.after f.after;
-      says = rw (t, extent_count s c.requires, le-ltb (i + 1) s.count (omega (arith, c.if-i-last.false)));
+    rw (← c.self.view_is) (record {
+      dense = removed_dense s v i t _ _ e.same f.same;
+      same = removed_same s v i t _ _ e.same f.same;
+      after = removed_after s v i t _ _ _ e.says e.after f.after;
+      says = rw (t, extent_count s v, le-ltb (i + 1) s.count (omega (arith, c.if-i-last.false)));
       cost = omega (arith, e.cost, f.cost);
-    }
+    })

@@ -1,5 +1,0 @@
-use Rattle.store.specs.Held.{Held}
-use Rattle.store_bench.proofs.open_lists.Given as goal
-
-abbrev pub invariant-loop-k : goal.invariant-loop-k
-invariant-loop-k l = Held l.st
