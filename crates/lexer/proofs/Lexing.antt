@@ -88,6 +88,9 @@ below2 m i x y k l = get_or-set_other (set m i x) (i + 1) k y 0 (omega arith) �
 at2_0 : (m : List ℕ) (i x y : ℕ) → i + 3 ≤ length m → get_or (set (set m i x) (i + 1) y) i 0 ≡ x
 at2_0 m i x y l = get_or-set_other (set m i x) (i + 1) i y 0 (omega arith) ∙ get_or-set_same m i x 0 (omega arith)
 
+at2_1 : (m : List ℕ) (i x y : ℕ) → i + 3 ≤ length m → get_or (set (set m i x) (i + 1) y) (i + 1) 0 ≡ y
+at2_1 m i x y l = get_or-set_same (set m i x) (i + 1) y 0 (omega (arith, length-set m i x))
+
 -- a bracket's token is no part of a word
 is_neither : Bracket → Bool
 is_neither Neither = true
@@ -124,7 +127,7 @@ pub not_back : (b : Bool) → not b ≡ false → b ≡ true
 not_back true e = refl
 not_back false e = sym e
 
-module _ {t m : List ℕ} {at : ℕ} {d g : Bool} {top n : ℕ} (h : Lexing t m at d g top n) (at' : ℕ) (d' g' b : Bool) (a : Bracket) (kind s l : ℕ) (st : Cuts t at d g at' d' g' b a kind s l) (lt : at < at') (le : at' ≤ length t) where
+module _ {t m : List ℕ} {at : ℕ} {d g : Bool} {top n : ℕ} (h : Lexing t m at d g top n) (at' : ℕ) (d' g' b : Bool) (a : Bracket) (kind s l : ℕ) (st : Cuts t at d g at' d' g' b a kind s l) (lt : at < at') (le : at' ≤ length t) (in_text : s + l ≤ length t) where
   pub step_silent : b ≡ false → Lexing t m at' d' g' top n
   step_silent e = let q = quiet (st h.outer) e in record { outer = h.outer; done = h.done; count = h.count; says = h.says ∙ ap (λ z. h.done ++ z) (subst (λ z. tokens (resting d h.outer g) (drop at t) ≡ tokens (moved z kind d' g' h.outer) (drop at' t)) q.0 q.1); toks = h.toks; brackets = h.brackets; near = h.near; few = omega arith; within = le }
 
@@ -132,13 +135,13 @@ module _ {t m : List ℕ} {at : ℕ} {d g : Bool} {top n : ℕ} (h : Lexing t m 
   step_plain e z r =
       let q = got (st h.outer) e in
       let i = 3 * n + 3 in
-      record { outer = h.outer; done = h.done ++ (q.0 ∷ []); count = omega (arith, length_push h.done q.0, h.count); says = pushed _ h.done q.0 _ _ h.says (subst (λ x. tokens (resting d h.outer g) (drop at t) ≡ q.0 ∷ tokens (moved x kind d' g' h.outer) (drop at' t)) z q.4); toks = push t h.done q.0 m _ n h.toks h.count (λ k x. below3 m i kind s l k x) (at0 m i kind s l (omega arith) ∙ q.2, rw (at1 m i kind s l (omega arith), at2 m i kind s l (omega arith)) q.3); brackets = opens_frame h.brackets (omega arith) (λ k x. below3 m i kind s l k x); near = omega (arith, h.near); few = omega arith; within = le }
+      record { outer = h.outer; done = h.done ++ (q.0 ∷ []); count = omega (arith, length_push h.done q.0, h.count); says = pushed _ h.done q.0 _ _ h.says (subst (λ x. tokens (resting d h.outer g) (drop at t) ≡ q.0 ∷ tokens (moved x kind d' g' h.outer) (drop at' t)) z q.4); toks = push t h.done q.0 m _ n h.toks h.count (λ k x. below3 m i kind s l k x) (at0 m i kind s l (omega arith) ∙ q.2, rw (at1 m i kind s l (omega arith), at2 m i kind s l (omega arith)) q.3, (omega (arith, at1 m i kind s l (omega arith)), λ x. omega (arith, at1 m i kind s l (omega arith), at2 m i kind s l (omega arith)))); brackets = opens_frame h.brackets (omega arith) (λ k x. below3 m i kind s l k x); near = omega (arith, h.near); few = omega arith; within = le }
 
   pub step_open : b ≡ true → a ≡ Opens → 3 * n + 6 ≤ length m → Lexing t (set (set (set m (3 * n + 3) kind) (3 * n + 3 + 1) s) (3 * n + 3 + 2) top) at' false false (3 * n + 3) (n + 1)
   step_open e z r =
       let q = got (st h.outer) e in
       let i = 3 * n + 3 in
-      record { outer = opens_substitution kind ∷ opens_in_quotes kind ∷ h.outer; done = h.done ++ (q.0 ∷ []); count = omega (arith, length_push h.done q.0, h.count); says = pushed _ h.done q.0 _ _ h.says (q.4 ∙ ap (λ x. q.0 ∷ tokens (moved x kind d' g' h.outer) (drop at' t)) z); toks = push t h.done q.0 m _ n h.toks h.count (λ k x. below3 m i kind s top k x) (at0 m i kind s top (omega arith) ∙ q.2, λ x. absurd (big_tag q.0 (not_neither_open z) q.1 x)); brackets = o_one (omega arith) (omega arith) (at2 m i kind s top (omega arith)) (at0 m i kind s top (omega arith)) (opens_frame h.brackets (omega arith) (λ k x. below3 m i kind s top k x)); near = omega arith; few = omega arith; within = le }
+      record { outer = opens_substitution kind ∷ opens_in_quotes kind ∷ h.outer; done = h.done ++ (q.0 ∷ []); count = omega (arith, length_push h.done q.0, h.count); says = pushed _ h.done q.0 _ _ h.says (q.4 ∙ ap (λ x. q.0 ∷ tokens (moved x kind d' g' h.outer) (drop at' t)) z); toks = push t h.done q.0 m _ n h.toks h.count (λ k x. below3 m i kind s top k x) (at0 m i kind s top (omega arith) ∙ q.2, λ x. absurd (big_tag q.0 (not_neither_open z) q.1 x), (omega (arith, at1 m i kind s top (omega arith)), λ x. absurd (big_tag q.0 (not_neither_open z) q.1 x))); brackets = o_one (omega arith) (omega arith) (at2 m i kind s top (omega arith)) (at0 m i kind s top (omega arith)) (opens_frame h.brackets (omega arith) (λ k x. below3 m i kind s top k x)); near = omega arith; few = omega arith; within = le }
 
   pub step_shut : b ≡ true → a ≡ Closes → 3 * n + 6 ≤ length m → 0 < top → Lexing t (set (set m (3 * n + 3) kind) (3 * n + 3 + 1) s) at' (opens_in_quotes (get_or (set (set m (3 * n + 3) kind) (3 * n + 3 + 1) s) top 0)) (opens_substitution (get_or (set (set m (3 * n + 3) kind) (3 * n + 3 + 1) s) top 0)) (get_or (set (set m (3 * n + 3) kind) (3 * n + 3 + 1) s) (top + 2) 0) (n + 1)
   step_shut e z r o =
@@ -146,14 +149,14 @@ module _ {t m : List ℕ} {at : ℕ} {d g : Bool} {top n : ℕ} (h : Lexing t m 
       let i = 3 * n + 3 in
       let v = pop h.brackets o in
       let room = opens_room h.brackets o in
-      rw (below2 m i kind s top (omega arith), below2 m i kind s (top + 2) (omega arith)) (record { outer = v.0; done = h.done ++ (q.0 ∷ []); count = omega (arith, length_push h.done q.0, h.count); says = pushed _ h.done q.0 _ _ h.says (q.4 ∙ ap (λ x. q.0 ∷ tokens x (drop at' t)) (ap (λ x. moved x kind d' g' h.outer) z ∙ ap (λ x. moved Closes kind d' g' x) v.1)); toks = push t h.done q.0 m _ n h.toks h.count (λ k x. below2 m i kind s k (omega arith)) (at2_0 m i kind s (omega arith) ∙ q.2, λ x. absurd (big_tag q.0 (not_neither_close z) q.1 x)); brackets = opens_frame v.2 (omega arith) (λ k x. below2 m i kind s k (omega arith)); near = omega (arith, opens_near v.2); few = omega arith; within = le })
+      rw (below2 m i kind s top (omega arith), below2 m i kind s (top + 2) (omega arith)) (record { outer = v.0; done = h.done ++ (q.0 ∷ []); count = omega (arith, length_push h.done q.0, h.count); says = pushed _ h.done q.0 _ _ h.says (q.4 ∙ ap (λ x. q.0 ∷ tokens x (drop at' t)) (ap (λ x. moved x kind d' g' h.outer) z ∙ ap (λ x. moved Closes kind d' g' x) v.1)); toks = push t h.done q.0 m _ n h.toks h.count (λ k x. below2 m i kind s k (omega arith)) (at2_0 m i kind s (omega arith) ∙ q.2, λ x. absurd (big_tag q.0 (not_neither_close z) q.1 x), (omega (arith, at2_1 m i kind s (omega arith)), λ x. absurd (big_tag q.0 (not_neither_close z) q.1 x))); brackets = opens_frame v.2 (omega arith) (λ k x. below2 m i kind s k (omega arith)); near = omega (arith, opens_near v.2); few = omega arith; within = le })
 
   pub step_shut_0 : b ≡ true → a ≡ Closes → 3 * n + 6 ≤ length m → top ≡ 0 → Lexing t (set (set m (3 * n + 3) kind) (3 * n + 3 + 1) s) at' false false top (n + 1)
   step_shut_0 e z r o =
       let q = got (st h.outer) e in
       let i = 3 * n + 3 in
       let v = pop0 h.brackets o in
-      record { outer = h.outer; done = h.done ++ (q.0 ∷ []); count = omega (arith, length_push h.done q.0, h.count); says = pushed _ h.done q.0 _ _ h.says (q.4 ∙ ap (λ x. q.0 ∷ tokens x (drop at' t)) (ap (λ x. moved x kind d' g' h.outer) z ∙ moved_shut kind d' g' h.outer v)); toks = push t h.done q.0 m _ n h.toks h.count (λ k x. below2 m i kind s k (omega arith)) (at2_0 m i kind s (omega arith) ∙ q.2, λ x. absurd (big_tag q.0 (not_neither_close z) q.1 x)); brackets = opens_frame h.brackets (omega arith) (λ k x. below2 m i kind s k (omega arith)); near = omega arith; few = omega arith; within = le }
+      record { outer = h.outer; done = h.done ++ (q.0 ∷ []); count = omega (arith, length_push h.done q.0, h.count); says = pushed _ h.done q.0 _ _ h.says (q.4 ∙ ap (λ x. q.0 ∷ tokens x (drop at' t)) (ap (λ x. moved x kind d' g' h.outer) z ∙ moved_shut kind d' g' h.outer v)); toks = push t h.done q.0 m _ n h.toks h.count (λ k x. below2 m i kind s k (omega arith)) (at2_0 m i kind s (omega arith) ∙ q.2, λ x. absurd (big_tag q.0 (not_neither_close z) q.1 x), (omega (arith, at2_1 m i kind s (omega arith)), λ x. absurd (big_tag q.0 (not_neither_close z) q.1 x))); brackets = opens_frame h.brackets (omega arith) (λ k x. below2 m i kind s k (omega arith)); near = omega arith; few = omega arith; within = le }
 
 has_all : (t m : List ℕ) (n : ℕ) → n ≡ length (tokens start t) → TokensAt t (tokens start t) m → Has t n m
 unfolding tokens_of
@@ -167,7 +170,7 @@ finish {t} {m} {at} {d} {g} {top} {n} h l e =
 pub finish_quoted : {t m : List ℕ} {at : ℕ} {d g : Bool} {top n : ℕ} → Lexing t m at d g top n → length t ≤ at → d ≡ true → 3 * n + 6 ≤ length m → Has t (n + 1) (set (set m (3 * n + 3) 45) (3 * n + 3 + 1) (length t))
 finish_quoted {t} {m} {at} {d} {g} {top} {n} h l e r =
     let q : tokens start t ≡ h.done ++ (sign (34 ∷ []) ∷ []) = h.says ∙ rw (e, drop_all at t l) in
-    has_all t _ (n + 1) (omega (arith, ap length q, length_push h.done (sign (34 ∷ [])), h.count)) (subst (λ z. TokensAt t z (set (set m (3 * n + 3) 45) (3 * n + 3 + 1) (length t))) (sym q) (push t h.done (sign (34 ∷ [])) m _ n h.toks h.count (λ k x. below2 m (3 * n + 3) 45 (length t) k (omega arith)) (at2_0 m (3 * n + 3) 45 (length t) (omega arith) ∙ sign_0.4, λ x. absurd (omega arith))))
+    has_all t _ (n + 1) (omega (arith, ap length q, length_push h.done (sign (34 ∷ [])), h.count)) (subst (λ z. TokensAt t z (set (set m (3 * n + 3) 45) (3 * n + 3 + 1) (length t))) (sym q) (push t h.done (sign (34 ∷ [])) m _ n h.toks h.count (λ k x. below2 m (3 * n + 3) 45 (length t) k (omega arith)) (at2_0 m (3 * n + 3) 45 (length t) (omega arith) ∙ sign_0.4, λ x. absurd (omega arith), (omega (arith, at2_1 m (3 * n + 3) 45 (length t) (omega arith)), λ x. absurd (omega arith)))))
 
 -- the tokens from one on: that one and those behind it, or none
 pub here : {t : List ℕ} {n : ℕ} {m : List ℕ} (i : ℕ) → Has t n m → i < n → tokens_from t i ≡ get_or (tokens_of t) i (token false 0 []) ∷ tokens_from t (i + 1)

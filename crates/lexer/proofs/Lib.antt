@@ -1,4 +1,7 @@
 -- Laws of the lexer.
+pub mod Coding
+pub mod Kept
+pub mod Same
 pub mod Lex
 pub mod Runs
 pub mod Next

@@ -80,7 +80,7 @@ pub bare_set : (b : List ℕ) (e : ℕ) → 16 ≤ keyword_index b → e ≡ run
 unfolding bare_code
 bare_set b e h k l v = rw (leb_yes 16 (keyword_index b) h, cut_some b [] (omega arith), ← k, v, length-take-le e b (omega arith))
 
-not_le : (m n : ℕ) → leb m n ≡ false → n < m
+pub not_le : (m n : ℕ) → leb m n ≡ false → n < m
 not_le m n e = nleb→lt m n (subst (λ b. T (not b)) (sym e) tt)
 
 pub bare_else_1 : (b : List ℕ) (e : ℕ) → 16 ≤ keyword_index b → e ≡ run_length (ends_run Prefix) b → length b ≤ e → pick (valid_name b) 46 0 ≡ word_code (keyword_index b) b

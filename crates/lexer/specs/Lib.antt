@@ -1,2 +1,3 @@
--- Tokens kept as words.
+-- Tokens, as values and kept as words.
+pub mod Codes
 pub mod Stored

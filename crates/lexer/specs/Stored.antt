@@ -65,8 +65,12 @@ token_code p = token_code_of p.joined p.kind p.bytes
 abbrev pub Spelled : List ℕ → ℕ → ℕ → Token → Type 0
 Spelled t s n p = p.kind ≤ 3 → take n (drop s t) ≡ p.bytes
 
+-- it starts within the text, and its bytes lie there
+abbrev pub Within : List ℕ → ℕ → ℕ → Token → Type 0
+Within t s n p = (s ≤ length t) × (p.kind ≤ 3 → s + n ≤ length t)
+
 abbrev pub TokenAt : List ℕ → Token → List ℕ → ℕ → Type 0
-TokenAt t p m a = (slice_index m a ≡ token_code p) × Spelled t (slice_index m (a + 1)) (slice_index m (a + 2)) p
+TokenAt t p m a = (slice_index m a ≡ token_code p) × Spelled t (slice_index m (a + 1)) (slice_index m (a + 2)) p × Within t (slice_index m (a + 1)) (slice_index m (a + 2)) p
 
 -- the token i stands at 3 * i + 3
 abbrev pub TokensAt : List ℕ → List Token → List ℕ → Type 0

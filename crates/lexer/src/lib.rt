@@ -7,6 +7,12 @@ ghost use Rattle.grammar.specs.Tokens.{doubles, ends_word};
 ghost use Rattle.lexer.specs.Stored.{Cuts, Has, bare_code, code_at, ends_run, index_of, opens_in_quotes, run_length, sign_code, tokens_from};
 ghost use Rattle.syntax.specs.Base.{digit, letter, pick, same, valid_name};
 
+mod token;
+mod tokens;
+
+pub use token::{Keyword, PartKind, PartTag, RedirectTag, Sign, Token, UnknownCode};
+pub use tokens::{Span, Tokens, tokenize};
+
 /// The longest text that is read.
 pub const MAX_TEXT: usize = 16384;
 
@@ -361,7 +367,7 @@ fn part(at: usize, quoted: bool, code: u32, start: usize, len: usize) -> Cut
 /// What begins with a $.
 fn cut_dollar(text: &[u8], at: usize, quoted: bool, glue: bool) -> Cut
     requires { (at < length text.now) × ((length text.now ≤ 16384) × (slice_index text.now at ≡ 36)) }
-    ensures goes { (at < result.at) × (result.at ≤ length text.now) × (result.start ≤ 16384) × (result.len ≤ 16384) }
+    ensures goes { (at < result.at) × (result.at ≤ length text.now) × (result.start + result.len ≤ length text.now) }
     ensures is { Cuts text.now at quoted glue result.at result.quoted result.glue result.found result.bracket result.code result.start result.len }
 {
     if at + 1 >= text.len() {
@@ -401,7 +407,7 @@ fn cut_dollar(text: &[u8], at: usize, quoted: bool, glue: bool) -> Cut
 /// Text in double quotes, or the quote that closes it.
 fn cut_text(text: &[u8], at: usize, glue: bool) -> Cut
     requires { (at < length text.now) × ((length text.now ≤ 16384) × ((slice_index text.now at ≢ 36))) }
-    ensures goes { (at < result.at) × (result.at ≤ length text.now) × (result.start ≤ 16384) × (result.len ≤ 16384) }
+    ensures goes { (at < result.at) × (result.at ≤ length text.now) × (result.start + result.len ≤ length text.now) }
     ensures is { Cuts text.now at true glue result.at result.quoted result.glue result.found result.bracket result.code result.start result.len }
 {
     if text[at] == b'"' {
@@ -414,7 +420,7 @@ fn cut_text(text: &[u8], at: usize, glue: bool) -> Cut
 /// Text in single quotes.
 fn cut_quote(text: &[u8], at: usize, glue: bool) -> Cut
     requires { (at < length text.now) × ((length text.now ≤ 16384) × (slice_index text.now at ≡ 39)) }
-    ensures goes { (at < result.at) × (result.at ≤ length text.now) × (result.start ≤ 16384) × (result.len ≤ 16384) }
+    ensures goes { (at < result.at) × (result.at ≤ length text.now) × (result.start + result.len ≤ length text.now) }
     ensures is { Cuts text.now at false glue result.at result.quoted result.glue result.found result.bracket result.code result.start result.len }
 {
     let e = run_end(text, at + 1, Run::Quote);
@@ -433,7 +439,7 @@ fn cut_quote(text: &[u8], at: usize, glue: bool) -> Cut
 /// A sign that may be doubled.
 fn cut_sign(text: &[u8], at: usize, glue: bool) -> Cut
     requires { (at < length text.now) × ((length text.now ≤ 16384) × (doubles (slice_index text.now at) ≡ true)) }
-    ensures goes { (at < result.at) × (result.at ≤ length text.now) × (result.start ≤ 16384) × (result.len ≤ 16384) }
+    ensures goes { (at < result.at) × (result.at ≤ length text.now) × (result.start + result.len ≤ length text.now) }
     ensures is { Cuts text.now at false glue result.at result.quoted result.glue result.found result.bracket result.code result.start result.len }
 {
     let c = text[at];
@@ -449,7 +455,7 @@ fn cut_sign(text: &[u8], at: usize, glue: bool) -> Cut
 /// A bare word, or a comment where no word has begun.
 fn cut_word(text: &[u8], at: usize, glue: bool) -> Cut
     requires { (at < length text.now) × ((length text.now ≤ 16384) × (ends_word (slice_index text.now at) ≡ false)) }
-    ensures goes { (at < result.at) × (result.at ≤ length text.now) × (result.start ≤ 16384) × (result.len ≤ 16384) }
+    ensures goes { (at < result.at) × (result.at ≤ length text.now) × (result.start + result.len ≤ length text.now) }
     ensures is { Cuts text.now at false glue result.at result.quoted result.glue result.found result.bracket result.code result.start result.len }
 {
     if glue {
@@ -467,7 +473,7 @@ fn cut_word(text: &[u8], at: usize, glue: bool) -> Cut
 /// What begins at `at`: a token, or what stands between tokens.
 fn cut_next(text: &[u8], at: usize, quoted: bool, glue: bool) -> Cut
     requires { (at < length text.now) × (length text.now ≤ 16384) }
-    ensures goes { (at < result.at) × (result.at ≤ length text.now) × (result.start ≤ 16384) × (result.len ≤ 16384) }
+    ensures goes { (at < result.at) × (result.at ≤ length text.now) × (result.start + result.len ≤ length text.now) }
     ensures is { Cuts text.now at quoted glue result.at result.quoted result.glue result.found result.bracket result.code result.start result.len }
 {
     let c = text[at];
@@ -513,7 +519,7 @@ fn in_quotes(code: u32) -> bool
 
 /// Writes all tokens of a text, three words each from the word 3 on, and says how many they are: the token's code, where
 /// it starts in the text, and its length or, at an opening bracket, where the bracket around it stands.
-pub fn tokenize(text: &[u8], words: &mut [u32]) -> usize
+pub fn write_tokens(text: &[u8], words: &mut [u32]) -> usize
     requires { (length text.now ≤ 16384) × (3 * length text.now + 6 ≤ length words.old) }
     ensures few { result ≤ length text.now + 1 }
     ensures has { Has text.now result words.new }
