@@ -1,5 +1,5 @@
 -- The tokens of a text have codes.
-use Rattle.std.proofs.Common.{◌≡◌, ℕ, zero, suc, ◌+◌, ◌<◌, ◌≤◌, ◌*◌, Bool, true, false, not, ◌&&◌, ◌||◌, T, eqb, leb, List, [], ◌∷◌, ◌++◌, length, drop, get_or, sym, refl, subst, arith, rules, leb→le}
+use Rattle.std.proofs.Common.{◌≡◌, ℕ, zero, suc, ◌+◌, ◌<◌, Bool, true, false, not, ◌&&◌, ◌||◌, T, eqb, leb, List, [], ◌∷◌, ◌++◌, length, drop, sym, refl, subst, arith, rules, leb→le}
 use mathlib.Core.Option.{Option, some, none}
 use lib.Dec.{nleb→lt}
 use Rattle.lexer.specs.declared.token.Keyword.TheVariants.{When, If, Then, Elif, Else, Fi, While, Do, Done, For, In, Case, Esac, OpenBrace, CloseBrace, Not}
@@ -10,12 +10,13 @@ use Rattle.lexer.specs.declared.token.PartKind.{PartKind}
 use Rattle.lexer.specs.declared.token.Token.TheVariants.{Part as part, Keyword as keyword, Name as name, Assignment as assignment, Sign as sign, Unclosed as unclosed}
 use Rattle.lexer.specs.declared.token.Token.{Token as Value}
 use Rattle.grammar.specs.Tokens.{Token, token, Pending, nothing, in_word, in_quote, in_text, after_dollar, in_name, in_sign, in_comment, Lexer, Scan, space, doubles, ends_word, scan_fresh, flush, is_sign, flush_and_scan, scan_byte, tokens, start}
-use Rattle.syntax.specs.Base.{pick, Name, same, letter, digit, name_bytes, valid_name}
+use Rattle.syntax.specs.Base.{pick, Name, letter, digit, valid_name}
 use Rattle.grammar.specs.Grammar.{split_equals, Split, reserved}
 use Rattle.lexer.specs.Codes.{keyword_code, sign_code_of, part_code, code_of, next_code, Fits, Decodes}
-use Rattle.lexer.specs.Stored.{index_of, sign_names, sign_code, keyword_index, bare_code, assignment_code, token_code, code_at, tokens_of, tokens_from, Has}
-use Rattle.lexer.specs.declared.token.UnknownCode.{UnknownCode}
-use Rattle.lexer.proofs.Lexing.{code_in}
+use Rattle.lexer.specs.Stored.{index_of, sign_names, sign_code, keyword_index, bare_code, assignment_code, token_code, code_at, tokens_of, tokens_from}
+use Rattle.lexer.specs.declared.codes.UnknownCode.{UnknownCode}
+use Rattle.lexer.proofs.WithBytes.{index_le}
+use Rattle.lexer.proofs.Runs.{name_short}
 use Rattle.std.specs.declared.result.Result.{Result}
 use Rattle.std.specs.declared.result.Result.TheVariants.{Ok, Err}
 use Rattle.std.specs.Result.{result_ok}
@@ -26,10 +27,6 @@ pub record Coded (k : ℕ) : Type 0 where
   pub value : Value
   pub fits : Fits value
   pub code : code_of value ≡ k
-
-pub index_le : (b : Name) (ks : List Name) → index_of b ks ≤ length ks
-index_le b [] = omega arith
-index_le b (k ∷ ks) = by_bool (λ x. pick x 0 (suc (index_of b ks)) ≤ suc (length ks)) (same b k) (λ e. omega arith) (λ e. omega (arith, index_le b ks))
 
 -- codes that count up from b: each number of that stretch is the code of one
 abbrev Counts : {A : Type 0} → (A → ℕ) → List A → ℕ → Type 0
@@ -50,14 +47,6 @@ sign_value i l = let r = counted sign_code_of (Semicolon ∷ Newline ∷ Ampersa
 sign_coded : (b : Name) → Coded (sign_code b)
 unfolding sign_code
 sign_coded b = by_bool (λ x. leb 13 (index_of b sign_names) ≡ x → Coded (32 + index_of b sign_names)) (leb 13 (index_of b sign_names)) (λ x e. record { value = unclosed; fits = tt; code = omega (arith, index_le b sign_names, leb→le _ _ (subst T (sym e) tt)) }) (λ x e. sign_value (index_of b sign_names) (nleb→lt 13 (index_of b sign_names) (subst (λ y. T (not y)) (sym e) tt))) refl
-
-and_right : (a b : Bool) → a && b ≡ true → b ≡ true
-and_right true b e = e
-and_right false b e = absurd (subst (λ x. T (not x)) e tt)
-
-name_short : (b : Name) → valid_name b ≡ true → length b ≤ 32
-name_short [] e = omega arith
-name_short (c ∷ cs) e = omega (arith, leb→le (length cs) 31 (subst T (sym (and_right (name_bytes cs) _ (and_right (letter c) _ e))) tt))
 
 assignment_coded : (o : Option Split) (d : ℕ) → Coded d → Coded (assignment_code o d)
 assignment_coded none d h = h
@@ -159,10 +148,6 @@ pub here_coded : (t : List ℕ) (i : ℕ) → i < length (tokens_of t) → Coded
 unfolding tokens_of
 here_coded t i l = one_coded (tokens start t) i (all_coded start t) l
 
-decoded : (k : ℕ) (r : Result Value UnknownCode) → Decodes k r → Coded k → next_code (result_ok r) ≡ k
+pub decoded : (k : ℕ) (r : Result Value UnknownCode) → Decodes k r → Coded k → next_code (result_ok r) ≡ k
 decoded k (Ok x) h c = h
 decoded k (Err e) h c = absurd (h.1 c.value c.fits c.code)
-
--- a token that is kept as a word is read again
-pub read_back : {t : List ℕ} {n : ℕ} {m : List ℕ} (i : ℕ) → Has t n m → i < n → (r : Result Value UnknownCode) → Decodes (get_or m (3 * i + 3) 0) r → next_code (result_ok r) ≡ code_at (tokens_from t i)
-read_back {t} i h l r d = decoded (code_at (tokens_from t i)) r (subst (λ k. Decodes k r) (code_in i h l) d) (here_coded t i (omega (arith, h.count)))

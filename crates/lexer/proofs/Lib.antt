@@ -1,4 +1,5 @@
 -- Laws of the lexer.
+pub mod WithBytes
 pub mod Coding
 pub mod Kept
 pub mod Same

@@ -1,8 +1,9 @@
 -- The numbers that stand for tokens.
-use Rattle.std.specs.Prelude.{◌≡◌, ℕ, ◌+◌, Bool, true, false, not, [], ◌∷◌, codes, Result, MatchResult, ◌≢◌, ◌<◌, ⊤}
+use Rattle.std.specs.Prelude.{List, ◌≡◌, ℕ, ◌+◌, Bool, true, false, not, [], ◌∷◌, codes, Result, MatchResult, ◌≢◌, ◌<◌, ⊤}
 use Rattle.std.specs.declared.option.Option.{Option}
 use Rattle.std.specs.declared.option.Option.TheVariants.{Some, None}
 use Rattle.syntax.specs.Base.{pick, Name}
+use Rattle.grammar.specs.Tokens.{doubles}
 use Rattle.grammar.specs.Grammar.{kw_when, kw_if, kw_then, kw_elif, kw_else, kw_fi, kw_while, kw_do, kw_done, kw_for, kw_in, kw_case, kw_esac, kw_open, kw_close, kw_not}
 use Rattle.lexer.specs.declared.token.Keyword.{Keyword}
 use Rattle.lexer.specs.declared.token.Keyword.TheVariants.{When, If, Then, Elif, Else, Fi, While, Do, Done, For, In, Case, Esac, OpenBrace, CloseBrace, Not}
@@ -15,7 +16,9 @@ use Rattle.lexer.specs.declared.token.PartKind.TheVariants.{Literal, Parameter, 
 use Rattle.lexer.specs.declared.token.PartTag.{PartTag}
 use Rattle.lexer.specs.declared.token.Token.{Token}
 use Rattle.lexer.specs.declared.token.Token.TheVariants.{Part as part, Keyword as keyword, Name as name, Assignment as assignment, Sign as sign, Unclosed as unclosed}
-use Rattle.lexer.specs.declared.token.UnknownCode.{UnknownCode}
+use Rattle.lexer.specs.declared.token.Bracket.{Bracket}
+use Rattle.lexer.specs.declared.token.Bracket.TheVariants.{Opens, Closes}
+use Rattle.lexer.specs.declared.codes.UnknownCode.{UnknownCode}
 
 abbrev pub keyword_code : Keyword → ℕ
 keyword_code When = 16
@@ -150,3 +153,35 @@ has_bytes name = true
 has_bytes (assignment n) = true
 has_bytes (sign s) = false
 has_bytes unclosed = false
+
+abbrev pub all_keywords : List Keyword
+all_keywords = When ∷ If ∷ Then ∷ Elif ∷ Else ∷ Fi ∷ While ∷ Do ∷ Done ∷ For ∷ In ∷ Case ∷ Esac ∷ OpenBrace ∷ CloseBrace ∷ Not ∷ []
+
+-- whether a sign, and a token, opens a bracket or closes one
+abbrev pub bracket_of_sign : Sign → Option Bracket
+bracket_of_sign Semicolon = None
+bracket_of_sign Newline = None
+bracket_of_sign Ampersand = None
+bracket_of_sign Pipe = None
+bracket_of_sign (Redirect r) = None
+bracket_of_sign OpenParen = Some Opens
+bracket_of_sign CloseParen = Some Closes
+bracket_of_sign And = None
+bracket_of_sign Or = None
+bracket_of_sign DoubleSemicolon = None
+
+abbrev pub bracket_of : Token → Option Bracket
+bracket_of (part p joined) = pick (is_substitution p.kind) (Some Opens) None
+bracket_of (keyword k) = None
+bracket_of name = None
+bracket_of (assignment n) = None
+bracket_of (sign s) = bracket_of_sign s
+bracket_of unclosed = None
+
+-- a byte makes these signs alone and twice
+pub record Signs (c : ℕ) (s : Sign × Sign) : Type 0 where
+  pub doubles : doubles c ≡ true
+  pub once : sign_name s.0 ≡ c ∷ []
+  pub twice : sign_name s.1 ≡ c ∷ c ∷ []
+  pub no_bracket : bracket_of_sign s.0 ≡ None
+  pub no_brackets : bracket_of_sign s.1 ≡ None

@@ -1,3 +1,5 @@
 -- Tokens, as values and kept as words.
 pub mod Codes
 pub mod Stored
+pub mod Cuts
+pub mod Written

@@ -1,6 +1,10 @@
-//! What a token is, and the number that stands for it where tokens are kept as words.
-ghost use Rattle.std.specs.Prelude.{◌≡◌, ℕ, ◌+◌, ◌<◌, ◌≤◌, ◌≢◌, Some, None, MatchOption};
-ghost use Rattle.lexer.specs.Codes.{Decodes, code_of, has_bytes, is_joined, keyword_name, part_code, part_of, sign_code_of, sign_name};
+//! What a token is.
+ghost use Rattle.std.specs.Prelude.{◌≡◌, None, find};
+ghost use Rattle.syntax.specs.Base.{same};
+ghost use Rattle.lexer.specs.Stored.{bare_code};
+ghost use Rattle.lexer.specs.Codes.{all_keywords, bracket_of, code_of, has_bytes, is_joined, keyword_name, part_of, sign_name};
+
+use crate::bytes::{find, is_name};
 
 /// A word that has a meaning of its own.
 #[derive(Clone, Copy, Debug, PartialEq, Eq)]
@@ -76,20 +80,12 @@ pub enum Token {
     Unclosed,
 }
 
-/// A number that stands for no token.
+/// What a token does to the brackets around it.
 #[derive(Clone, Copy, Debug, PartialEq, Eq)]
-pub struct UnknownCode(pub u32);
-
-/// The code of a quote that is not closed.
-const UNCLOSED: u32 = 45;
-
-const NAME: u32 = 46;
-
-/// The code of an assignment whose name is empty.
-const ASSIGNMENT: u32 = 64;
-
-/// Added to a part's code where it is joined to the token before it.
-const JOINED: u32 = 8;
+pub enum Bracket {
+    Opens,
+    Closes,
+}
 
 impl Keyword {
     pub const ALL: [Keyword; 16] = [
@@ -110,6 +106,22 @@ impl Keyword {
         Keyword::CloseBrace,
         Keyword::Not,
     ];
+
+    /// The keyword that a word is.
+    pub(crate) fn from_spelling(word: &[u8]) -> Option<Keyword>
+        ensures { result ≡ find (λ k. same word.now (keyword_name k)) all_keywords }
+    {
+        Keyword::ALL
+            .iter()
+            .copied()
+            .find(|&keyword| keyword.is_spelled(word))
+    }
+
+    fn is_spelled(self, word: &[u8]) -> bool
+        ensures { result ≡ same word.now (keyword_name self) }
+    {
+        word == self.spelling()
+    }
 
     pub fn spelling(self) -> &'static [u8]
         ensures { result.now ≡ keyword_name self }
@@ -171,53 +183,20 @@ impl Sign {
             Sign::DoubleSemicolon => b";;",
         }
     }
-
-    fn code(self) -> u32
-        ensures { result ≡ sign_code_of self }
-    {
-        match self {
-            Sign::Semicolon => 32,
-            Sign::Newline => 33,
-            Sign::Ampersand => 34,
-            Sign::Pipe => 35,
-            Sign::Redirect(tag) => 36 + tag as u32,
-            Sign::OpenParen => 40,
-            Sign::CloseParen => 41,
-            Sign::And => 42,
-            Sign::Or => 43,
-            Sign::DoubleSemicolon => 44,
-        }
-    }
 }
 
 impl PartTag {
+    /// Bytes outside of quotes.
     pub const LITERAL: PartTag = PartTag {
         kind: PartKind::Literal,
         quoted: false,
     };
 
-    fn code(self) -> u32
-        ensures { result ≡ part_code self }
-    {
-        let unquoted = match self.kind {
-            PartKind::Literal => 0,
-            PartKind::Parameter => 2,
-            PartKind::Substitution => 5,
-        };
-        unquoted + u32::from(self.quoted)
-    }
-
-    fn from_code(code: u32) -> Option<PartTag>
-        ensures { MatchOption result ((part : _) → part_code part ≢ code) (λ part. part_code part ≡ code) }
-    {
-        let (kind, quoted) = match code {
-            0 | 1 => (PartKind::Literal, code == 1),
-            2 | 3 => (PartKind::Parameter, code == 3),
-            5 | 6 => (PartKind::Substitution, code == 6),
-            _ => return None,
-        };
-        Some(PartTag { kind, quoted })
-    }
+    /// Bytes in quotes.
+    pub const QUOTED: PartTag = PartTag {
+        kind: PartKind::Literal,
+        quoted: true,
+    };
 }
 
 impl Token {
@@ -238,57 +217,42 @@ impl Token {
     {
         matches!(self, Token::Part { joined: true, .. })
     }
-}
 
-impl Token {
+    /// Whether it opens a bracket or closes one.
+    pub(crate) fn bracket(self) -> Option<Bracket>
+        ensures { result ≡ bracket_of self }
+    {
+        match self {
+            Token::Part { part, .. } if part.kind == PartKind::Substitution => Some(Bracket::Opens),
+            Token::Sign(Sign::OpenParen) => Some(Bracket::Opens),
+            Token::Sign(Sign::CloseParen) => Some(Bracket::Closes),
+            _ => None,
+        }
+    }
+
     /// Whether its bytes stand in the text as they are: a sign and a bracket are known by their kind.
     pub(crate) fn has_bytes(self) -> bool
         ensures { result ≡ has_bytes self }
     {
-        match self.part() {
-            Some(part) => part.kind != PartKind::Substitution,
-            None => false,
-        }
+        self.part()
+            .is_some_and(|part| part.kind != PartKind::Substitution)
     }
 }
 
-impl From<Token> for u32 {
-    ghost from_gives = { λ token code. code ≡ code_of token };
-
-    fn from(token: Token) -> u32 {
-        match token {
-            Token::Part { part, joined } => part.code() + if joined { JOINED } else { 0 },
-            Token::Keyword(keyword) => keyword as u32,
-            Token::Name => NAME,
-            Token::Assignment { name } => ASSIGNMENT + u32::from(name),
-            Token::Sign(sign) => sign.code(),
-            Token::Unclosed => UNCLOSED,
-        }
+/// What a bare word is to which nothing is joined before it.
+pub fn bare_token(word: &[u8]) -> Token
+    ensures code { code_of result ≡ bare_code word.now }
+    ensures no_bracket { bracket_of result ≡ None }
+{
+    if let Some(keyword) = Keyword::from_spelling(word) {
+        return Token::Keyword(keyword);
     }
-}
-
-impl TryFrom<u32> for Token {
-    type Error = UnknownCode;
-
-    ghost try_from_gives = { Decodes };
-
-    fn try_from(code: u32) -> Result<Self, UnknownCode> {
-        match code {
-            0..=15 => {
-                let joined = code >= JOINED;
-                match PartTag::from_code(code % JOINED) {
-                    Some(part) => Ok(Token::Part { part, joined }),
-                    None => Err(UnknownCode(code)),
-                }
-            }
-            16..=31 => Ok(Token::Keyword(Keyword::ALL[code as usize - 16])),
-            32..=44 => Ok(Token::Sign(Sign::ALL[code as usize - 32])),
-            UNCLOSED => Ok(Token::Unclosed),
-            NAME => Ok(Token::Name),
-            64..=319 => Ok(Token::Assignment {
-                name: (code - ASSIGNMENT) as u8,
-            }),
-            47..=63 | 320..=u32::MAX => Err(UnknownCode(code)),
-        }
+    match find(word, b'=') {
+        Some(len) if is_name(&word[..len]) => Token::Assignment { name: len as u8 },
+        _ if is_name(word) => Token::Name,
+        _ => Token::Part {
+            part: PartTag::LITERAL,
+            joined: false,
+        },
     }
 }

@@ -5,7 +5,7 @@ ghost use Rattle.lexer.specs.Codes.{next_code};
 ghost use Rattle.lexer.specs.Stored.{Has, Spelled, code_at, tokens_from, tokens_of};
 
 use crate::token::Token;
-use crate::write_tokens;
+use crate::write::write_tokens;
 
 /// The tokens of a text, each kept in three lent words from the word 3 on: the token's code, where it starts in the text,
 /// and its length or, at a bracket, what was needed to write them.

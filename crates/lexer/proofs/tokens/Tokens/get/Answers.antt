@@ -1,5 +1,5 @@
 use Rattle.std.proofs.Common.{arith}
-use Rattle.lexer.proofs.Coding.{read_back}
+use Rattle.lexer.proofs.Kept.{read_back}
 use Rattle.lexer.proofs.tokens.Tokens.get.Goals as goal
 
 pub returns : goal.returns
