@@ -48,11 +48,12 @@ struct Begun {
     start: usize,
 }
 
-/// An open bracket: whether it is a $( and whether that stands in double quotes.
+/// An open bracket.
 #[derive(Clone, Copy)]
-struct Bracket {
-    substitution: bool,
-    quoted: bool,
+enum Bracket {
+    Plain,
+    /// $( in double quotes or not.
+    Substitution { quoted: bool },
 }
 
 /// In double quotes or not; the open brackets; whether the next token is joined; what has begun; the tokens so far.
@@ -148,14 +149,11 @@ impl<'t> Lexer<'t> {
         }
         self.put_sign(sign, at)?;
         match sign {
-            Sign::OpenParenthesis => self.outer.push(Bracket {
-                substitution: false,
-                quoted: false,
-            })?,
+            Sign::OpenParenthesis => self.outer.push(Bracket::Plain)?,
             Sign::CloseParenthesis => {
-                if let Some(bracket) = self.outer.pop() {
-                    self.quoted = bracket.quoted;
-                    self.glue = bracket.substitution;
+                if let Some(Bracket::Substitution { quoted }) = self.outer.pop() {
+                    self.quoted = quoted;
+                    self.glue = true;
                 }
             }
             _ => {}
@@ -243,10 +241,7 @@ impl<'t> Lexer<'t> {
     fn open_substitution(&mut self, start: usize) -> Result<(), Fault> {
         let quoted = self.quoted;
         self.put(self.glue, TokenKind::Open { quoted }, start)?;
-        self.outer.push(Bracket {
-            substitution: true,
-            quoted,
-        })?;
+        self.outer.push(Bracket::Substitution { quoted })?;
         self.quoted = false;
         self.glue = false;
         self.begun = None;

@@ -1,7 +1,7 @@
 //! From tokens to trees, by recursive descent. Only lists in lists recurse, and `left` says how many levels of them may
 //! still come.
 
-ghost use Rattle.std.specs.Prelude.{◌≡◌, ◌-◌, ◌≤◌, ◌<◌, T, length, OnOk, IsSome};
+ghost use Rattle.std.specs.Prelude.{ℕ, ◌≡◌, ◌-◌, ◌≤◌, ◌<◌, T, length, OnOk, IsSome};
 
 use crate::lexer;
 use crate::lexer::{Token, TokenKind, begins_name, in_name};
@@ -11,9 +11,12 @@ use crate::tree::{
     NoText, Pipeline, Redirect, RedirectKind, Word, WordPart,
 };
 use std::alloc::Global;
+use std::marker::Model;
 
+/// A text has at most so many bytes.
 pub const MOST_BYTES: usize = 16384;
 
+/// Lists stand at most so deep in lists, the text's own counted.
 const LEVELS: u32 = 33;
 
 /// What stands at the next token, where a command may begin.
@@ -28,11 +31,18 @@ enum Lookahead {
     Sign(Sign),
 }
 
-/// Whether something has to stand behind the last command of a list.
+/// What ends a command of a list: ; or the end of a line, or &, which puts it into the background.
 #[derive(Clone, Copy, PartialEq, Eq, Debug)]
 enum Terminator {
-    Needed,
-    Optional,
+    Plain,
+    Background,
+}
+
+/// Whether the last command of a list needs a terminator.
+#[derive(Clone, Copy, PartialEq, Eq, Debug)]
+enum Last {
+    Ended,
+    Open,
 }
 
 /// Names of variables and functions: letters, digits and _, no digit first, at most 32 bytes.
@@ -45,10 +55,6 @@ pub fn valid_name(name: &[u8]) -> bool
     }
 }
 
-fn reserved(word: &[u8]) -> bool {
-    Keyword::try_from(word).is_ok()
-}
-
 /// The first word of a simple command is no reserved word.
 fn first_word_fits(word: &Word) -> bool {
     match word.parts.as_slice() {
@@ -57,7 +63,7 @@ fn first_word_fits(word: &Word) -> bool {
                 quoted: false,
                 bytes,
             },
-        ] => !reserved(bytes),
+        ] => Keyword::try_from(bytes.as_slice()).is_err(),
         _ => true,
     }
 }
@@ -90,7 +96,7 @@ fn list_of(heap: Global, command: Command) -> Result<CommandList, Fault> {
     Ok(vec![in heap; item]?)
 }
 
-/// The tokens that are not read yet, and where the text ends.
+/// The tokens that are left, and where the text ends.
 #[derive(Drop)]
 struct Parser<'t> {
     heap: Global,
@@ -98,9 +104,17 @@ struct Parser<'t> {
     end: usize,
 }
 
+/// How many tokens are left.
+impl<'t> Model for Parser<'t> {
+    ghost Value = { ℕ };
+
+    ghost view = { λ p. length p.rest.now };
+}
+
 impl<'t> Parser<'t> {
+    /// Goes on over the next token, if there is one.
     fn advance(&mut self)
-        ensures { length self.new.rest.now ≡ length self.old.rest.now - 1 }
+        ensures { self.new ≡ self.old - 1 }
     {
         self.rest = self.rest.get(1..).unwrap_or(&[]);
     }
@@ -160,7 +174,7 @@ impl<'t> Parser<'t> {
 
     /// The bytes of the next token, if it is bare and begins a word.
     fn bare(&self) -> Option<&'t [u8]>
-        ensures { IsSome result → 0 < length self.now.rest.now }
+        ensures { IsSome result → 0 < self.now }
     {
         match self.rest.first()? {
             Token {
@@ -174,8 +188,8 @@ impl<'t> Parser<'t> {
 
     /// Goes on over a bare token that is this word, if it is next.
     fn take_keyword(&mut self, keyword: Keyword) -> bool
-        ensures taken { T result → length self.new.rest.now < length self.old.rest.now }
-        ensures kept { length self.new.rest.now ≤ length self.old.rest.now }
+        ensures taken { T result → self.new < self.old }
+        ensures kept { self.new ≤ self.old }
     {
         let found = self
             .bare()
@@ -187,7 +201,7 @@ impl<'t> Parser<'t> {
     }
 
     fn expect_keyword(&mut self, keyword: Keyword) -> Result<(), Fault>
-        ensures { OnOk result (length self.new.rest.now < length self.old.rest.now) }
+        ensures { OnOk result (self.new < self.old) }
     {
         if self.take_keyword(keyword) {
             Ok(())
@@ -196,8 +210,9 @@ impl<'t> Parser<'t> {
         }
     }
 
+    /// The next token, if it is a sign.
     fn sign(&self) -> Option<Sign>
-        ensures { IsSome result → 0 < length self.now.rest.now }
+        ensures { IsSome result → 0 < self.now }
     {
         match self.rest.first()?.kind {
             TokenKind::Sign(sign) => Some(sign),
@@ -207,8 +222,8 @@ impl<'t> Parser<'t> {
 
     /// Goes on over this sign, if it is next.
     fn take_sign(&mut self, sign: Sign) -> bool
-        ensures taken { T result → length self.new.rest.now < length self.old.rest.now }
-        ensures kept { length self.new.rest.now ≤ length self.old.rest.now }
+        ensures taken { T result → self.new < self.old }
+        ensures kept { self.new ≤ self.old }
     {
         let found = self.sign() == Some(sign);
         if found {
@@ -218,7 +233,7 @@ impl<'t> Parser<'t> {
     }
 
     fn expect_sign(&mut self, sign: Sign) -> Result<(), Fault>
-        ensures { OnOk result (length self.new.rest.now < length self.old.rest.now) }
+        ensures { OnOk result (self.new < self.old) }
     {
         if self.take_sign(sign) {
             Ok(())
@@ -229,7 +244,7 @@ impl<'t> Parser<'t> {
 
     /// One ; or one end of a line.
     fn expect_separator(&mut self) -> Result<(), Fault>
-        ensures { OnOk result (length self.new.rest.now < length self.old.rest.now) }
+        ensures { OnOk result (self.new < self.old) }
     {
         if self.take_sign(Sign::Semicolon) || self.take_sign(Sign::EndOfLine) {
             Ok(())
@@ -238,23 +253,22 @@ impl<'t> Parser<'t> {
         }
     }
 
-    /// What ends a command: true for &, which puts it into the background.
-    fn take_terminator(&mut self) -> Option<bool>
-        ensures taken { IsSome result → length self.new.rest.now < length self.old.rest.now }
-        ensures kept { length self.new.rest.now ≤ length self.old.rest.now }
+    fn take_terminator(&mut self) -> Option<Terminator>
+        ensures taken { IsSome result → self.new < self.old }
+        ensures kept { self.new ≤ self.old }
     {
         if self.take_sign(Sign::Semicolon) || self.take_sign(Sign::EndOfLine) {
-            Some(false)
+            Some(Terminator::Plain)
         } else if self.take_sign(Sign::Ampersand) {
-            Some(true)
+            Some(Terminator::Background)
         } else {
             None
         }
     }
 
     fn take_redirect(&mut self) -> Option<RedirectKind>
-        ensures taken { IsSome result → length self.new.rest.now < length self.old.rest.now }
-        ensures kept { length self.new.rest.now ≤ length self.old.rest.now }
+        ensures taken { IsSome result → self.new < self.old }
+        ensures kept { self.new ≤ self.old }
     {
         let kind = redirect_kind(self.sign()?)?;
         self.advance();
@@ -262,8 +276,8 @@ impl<'t> Parser<'t> {
     }
 
     fn take_joiner(&mut self) -> Option<Joiner>
-        ensures taken { IsSome result → length self.new.rest.now < length self.old.rest.now }
-        ensures kept { length self.new.rest.now ≤ length self.old.rest.now }
+        ensures taken { IsSome result → self.new < self.old }
+        ensures kept { self.new ≤ self.old }
     {
         if self.take_sign(Sign::DoubleAmpersand) {
             Some(Joiner::And)
@@ -283,14 +297,14 @@ impl<'t> Parser<'t> {
         match self.lookahead() {
             Lookahead::End => true,
             Lookahead::Sign(sign) => matches!(sign, Sign::CloseParenthesis | Sign::DoubleSemicolon),
-            Lookahead::Keyword(keyword) => !begins_command(keyword),
+            Lookahead::Keyword(keyword) => !keyword.begins_command(),
             Lookahead::Odd | Lookahead::Part => false,
         }
     }
 
     /// The bytes of the next token before and behind its first =, if it is bare, begins a word, and has a name there.
     fn assignment(&self) -> Option<(&'t [u8], &'t [u8])>
-        ensures { IsSome result → 0 < length self.now.rest.now }
+        ensures { IsSome result → 0 < self.now }
     {
         let mut halves = self.bare()?.splitn(2, |c| *c == b'=');
         let name = halves.next()?;
@@ -303,7 +317,7 @@ impl<'t> Parser<'t> {
     }
 
     fn take_name(&mut self) -> Result<Vec<u8>, Fault>
-        ensures { OnOk result (length self.new.rest.now < length self.old.rest.now) }
+        ensures { OnOk result (self.new < self.old) }
     {
         match self.bare() {
             Some(name) if valid_name(name) => {
@@ -335,7 +349,7 @@ impl<'t> Parser<'t> {
     /// A part of a word.
     #[cycle(parsing)]
     fn part(&mut self, left: u32) -> Result<WordPart, Fault>
-        ensures { OnOk result (length self.new.rest.now < length self.old.rest.now) }
+        ensures { OnOk result (self.new < self.old) }
     {
         let Some(token) = self.rest.first() else {
             return Err(self.refuse(Expected::Word));
@@ -355,7 +369,7 @@ impl<'t> Parser<'t> {
             },
             TokenKind::Open { quoted } => {
                 self.advance();
-                let list = self.list(left, Terminator::Optional)?;
+                let list = self.list(left, Last::Open)?;
                 self.expect_sign(Sign::CloseParenthesis)?;
                 return Ok(WordPart::Substitution { quoted, list });
             }
@@ -368,7 +382,7 @@ impl<'t> Parser<'t> {
     /// What is joined to what stands before it, behind the parts that were read before.
     #[cycle(parsing)]
     fn joined_parts(&mut self, left: u32, mut parts: Vec<WordPart>) -> Result<Word, Fault>
-        ensures { OnOk result (length self.new.rest.now ≤ length self.old.rest.now) }
+        ensures { OnOk result (self.new ≤ self.old) }
     {
         while self.next_is_joined() {
             parts.push(self.part(left)?)?;
@@ -379,7 +393,7 @@ impl<'t> Parser<'t> {
     /// A word is what is joined together.
     #[cycle(parsing)]
     fn word(&mut self, left: u32) -> Result<Word, Fault>
-        ensures { OnOk result (length self.new.rest.now < length self.old.rest.now) }
+        ensures { OnOk result (self.new < self.old) }
     {
         if self.next_is_joined() {
             return Err(self.refuse(Expected::Word));
@@ -392,7 +406,7 @@ impl<'t> Parser<'t> {
     /// Words up to a sign, behind those that were read before.
     #[cycle(parsing)]
     fn more_words(&mut self, left: u32, mut words: Vec<Word>) -> Result<Vec<Word>, Fault>
-        ensures { OnOk result (length self.new.rest.now ≤ length self.old.rest.now) }
+        ensures { OnOk result (self.new ≤ self.old) }
     {
         while !self.no_word() {
             words.push(self.word(left)?)?;
@@ -404,7 +418,7 @@ impl<'t> Parser<'t> {
     /// first part, if there is any of it.
     #[cycle(parsing)]
     fn assignments(&mut self, left: u32) -> Result<Vec<Assignment>, Fault>
-        ensures { OnOk result (length self.new.rest.now ≤ length self.old.rest.now) }
+        ensures { OnOk result (self.new ≤ self.old) }
     {
         let mut assignments = Vec::new(self.heap);
         while let Some((name, behind)) = self.assignment() {
@@ -426,7 +440,7 @@ impl<'t> Parser<'t> {
 
     #[cycle(parsing)]
     fn redirects(&mut self, left: u32) -> Result<Vec<Redirect>, Fault>
-        ensures { OnOk result (length self.new.rest.now ≤ length self.old.rest.now) }
+        ensures { OnOk result (self.new ≤ self.old) }
     {
         let mut redirects = Vec::new(self.heap);
         while let Some(kind) = self.take_redirect() {
@@ -441,7 +455,7 @@ impl<'t> Parser<'t> {
     /// Assignments, words, redirections; words may only be missing where there are no redirections.
     #[cycle(parsing)]
     fn simple(&mut self, left: u32) -> Result<Command, Fault>
-        ensures { OnOk result (length self.new.rest.now ≤ length self.old.rest.now) }
+        ensures { OnOk result (self.new ≤ self.old) }
     {
         let assignments = self.assignments(left)?;
         if self.no_word() {
@@ -472,13 +486,13 @@ impl<'t> Parser<'t> {
     /// name() { list }
     #[cycle(parsing)]
     fn function(&mut self, left: u32) -> Result<Command, Fault>
-        ensures { OnOk result (length self.new.rest.now ≤ length self.old.rest.now) }
+        ensures { OnOk result (self.new ≤ self.old) }
     {
         let name = self.take_name()?;
         self.expect_sign(Sign::OpenParenthesis)?;
         self.expect_sign(Sign::CloseParenthesis)?;
         self.expect_keyword(Keyword::OpenBrace)?;
-        let body = self.list(left, Terminator::Needed)?;
+        let body = self.list(left, Last::Ended)?;
         self.expect_keyword(Keyword::CloseBrace)?;
         Ok(Command::Function { name, body })
     }
@@ -486,12 +500,12 @@ impl<'t> Parser<'t> {
     /// if list then list, and what stands behind it
     #[cycle(parsing)]
     fn if_command(&mut self, left: u32) -> Result<Compound, Fault>
-        ensures { OnOk result (length self.new.rest.now ≤ length self.old.rest.now) }
+        ensures { OnOk result (self.new ≤ self.old) }
     {
         self.expect_keyword(Keyword::If)?;
-        let condition = self.list(left, Terminator::Needed)?;
+        let condition = self.list(left, Last::Ended)?;
         self.expect_keyword(Keyword::Then)?;
-        let then = self.list(left, Terminator::Needed)?;
+        let then = self.list(left, Last::Ended)?;
         let otherwise = self.else_part(left)?;
         Ok(Compound::If {
             condition,
@@ -504,7 +518,7 @@ impl<'t> Parser<'t> {
     /// is one if.
     #[cycle(parsing)]
     fn else_part(&mut self, left: u32) -> Result<Option<CommandList>, Fault>
-        ensures { OnOk result (length self.new.rest.now ≤ length self.old.rest.now) }
+        ensures { OnOk result (self.new ≤ self.old) }
     {
         if left == 0 {
             return Err(self.refuse(Expected::LessDepth));
@@ -513,16 +527,16 @@ impl<'t> Parser<'t> {
             return Ok(None);
         }
         if self.take_keyword(Keyword::Else) {
-            let otherwise = self.list(left, Terminator::Needed)?;
+            let otherwise = self.list(left, Last::Ended)?;
             self.expect_keyword(Keyword::Fi)?;
             return Ok(Some(otherwise));
         }
         if !self.take_keyword(Keyword::Elif) {
             return Err(self.refuse(Expected::ElseOrFi));
         }
-        let condition = self.list(left - 1, Terminator::Needed)?;
+        let condition = self.list(left - 1, Last::Ended)?;
         self.expect_keyword(Keyword::Then)?;
-        let then = self.list(left - 1, Terminator::Needed)?;
+        let then = self.list(left - 1, Last::Ended)?;
         let otherwise = self.else_part(left - 1)?;
         let compound = Compound::If {
             condition,
@@ -539,10 +553,10 @@ impl<'t> Parser<'t> {
     /// while list do list done
     #[cycle(parsing)]
     fn while_command(&mut self, left: u32) -> Result<Compound, Fault>
-        ensures { OnOk result (length self.new.rest.now ≤ length self.old.rest.now) }
+        ensures { OnOk result (self.new ≤ self.old) }
     {
         self.expect_keyword(Keyword::While)?;
-        let condition = self.list(left, Terminator::Needed)?;
+        let condition = self.list(left, Last::Ended)?;
         let body = self.do_part(left)?;
         Ok(Compound::While { condition, body })
     }
@@ -550,10 +564,10 @@ impl<'t> Parser<'t> {
     /// do list done
     #[cycle(parsing)]
     fn do_part(&mut self, left: u32) -> Result<CommandList, Fault>
-        ensures { OnOk result (length self.new.rest.now ≤ length self.old.rest.now) }
+        ensures { OnOk result (self.new ≤ self.old) }
     {
         self.expect_keyword(Keyword::Do)?;
-        let body = self.list(left, Terminator::Needed)?;
+        let body = self.list(left, Last::Ended)?;
         self.expect_keyword(Keyword::Done)?;
         Ok(body)
     }
@@ -561,7 +575,7 @@ impl<'t> Parser<'t> {
     /// for name in words, one ; or one end of a line, do list done
     #[cycle(parsing)]
     fn for_command(&mut self, left: u32) -> Result<Compound, Fault>
-        ensures { OnOk result (length self.new.rest.now ≤ length self.old.rest.now) }
+        ensures { OnOk result (self.new ≤ self.old) }
     {
         self.expect_keyword(Keyword::For)?;
         let name = self.take_name()?;
@@ -575,7 +589,7 @@ impl<'t> Parser<'t> {
     /// when word, one ; or one end of a line, a list, ;; and ends of lines between them
     #[cycle(parsing)]
     fn arms(&mut self, left: u32) -> Result<Vec<Arm>, Fault>
-        ensures { OnOk result (length self.new.rest.now ≤ length self.old.rest.now) }
+        ensures { OnOk result (self.new ≤ self.old) }
     {
         let mut arms = Vec::new(self.heap);
         loop {
@@ -587,7 +601,7 @@ impl<'t> Parser<'t> {
             }
             let pattern = self.word(left)?;
             self.expect_separator()?;
-            let list = self.list(left, Terminator::Optional)?;
+            let list = self.list(left, Last::Open)?;
             self.expect_sign(Sign::DoubleSemicolon)?;
             arms.push(Arm { pattern, list })?;
         }
@@ -596,7 +610,7 @@ impl<'t> Parser<'t> {
     /// case word in arms esac
     #[cycle(parsing)]
     fn case_command(&mut self, left: u32) -> Result<Compound, Fault>
-        ensures { OnOk result (length self.new.rest.now ≤ length self.old.rest.now) }
+        ensures { OnOk result (self.new ≤ self.old) }
     {
         self.expect_keyword(Keyword::Case)?;
         let word = self.word(left)?;
@@ -609,10 +623,10 @@ impl<'t> Parser<'t> {
     /// { list }
     #[cycle(parsing)]
     fn group(&mut self, left: u32) -> Result<Compound, Fault>
-        ensures { OnOk result (length self.new.rest.now ≤ length self.old.rest.now) }
+        ensures { OnOk result (self.new ≤ self.old) }
     {
         self.expect_keyword(Keyword::OpenBrace)?;
-        let list = self.list(left, Terminator::Needed)?;
+        let list = self.list(left, Last::Ended)?;
         self.expect_keyword(Keyword::CloseBrace)?;
         Ok(Compound::Group(list))
     }
@@ -620,10 +634,10 @@ impl<'t> Parser<'t> {
     /// ( list )
     #[cycle(parsing)]
     fn subshell(&mut self, left: u32) -> Result<Compound, Fault>
-        ensures { OnOk result (length self.new.rest.now ≤ length self.old.rest.now) }
+        ensures { OnOk result (self.new ≤ self.old) }
     {
         self.expect_sign(Sign::OpenParenthesis)?;
-        let list = self.list(left, Terminator::Optional)?;
+        let list = self.list(left, Last::Open)?;
         self.expect_sign(Sign::CloseParenthesis)?;
         Ok(Compound::Subshell(list))
     }
@@ -631,7 +645,7 @@ impl<'t> Parser<'t> {
     /// A command that begins with a reserved word or (.
     #[cycle(parsing)]
     fn compound(&mut self, left: u32) -> Result<Compound, Fault>
-        ensures { OnOk result (length self.new.rest.now ≤ length self.old.rest.now) }
+        ensures { OnOk result (self.new ≤ self.old) }
     {
         match self.lookahead() {
             Lookahead::Keyword(Keyword::If) => self.if_command(left),
@@ -646,7 +660,7 @@ impl<'t> Parser<'t> {
 
     #[cycle(parsing)]
     fn command(&mut self, left: u32) -> Result<Command, Fault>
-        ensures { OnOk result (length self.new.rest.now ≤ length self.old.rest.now) }
+        ensures { OnOk result (self.new ≤ self.old) }
     {
         if self.lookahead() != Lookahead::Part {
             let compound = self.compound(left)?;
@@ -666,7 +680,7 @@ impl<'t> Parser<'t> {
     /// Commands with | between them, with or without ! before the first.
     #[cycle(parsing)]
     fn pipeline(&mut self, left: u32) -> Result<Pipeline, Fault>
-        ensures { OnOk result (length self.new.rest.now ≤ length self.old.rest.now) }
+        ensures { OnOk result (self.new ≤ self.old) }
     {
         let negated = self.lookahead() == Lookahead::Keyword(Keyword::Not);
         if negated {
@@ -683,7 +697,7 @@ impl<'t> Parser<'t> {
     /// Pipelines joined by && and ||.
     #[cycle(parsing)]
     fn and_or(&mut self, left: u32) -> Result<AndOr, Fault>
-        ensures { OnOk result (length self.new.rest.now ≤ length self.old.rest.now) }
+        ensures { OnOk result (self.new ≤ self.old) }
     {
         let first = self.pipeline(left)?;
         let mut rest = Vec::new(self.heap);
@@ -696,10 +710,10 @@ impl<'t> Parser<'t> {
         Ok(AndOr { first, rest })
     }
 
-    /// Commands, each with ; & or the end of a line behind it; the last may need none.
+    /// Commands, each with ; & or the end of a line behind it.
     #[cycle(parsing)]
-    fn list(&mut self, left: u32, last: Terminator) -> Result<CommandList, Fault>
-        ensures { OnOk result (length self.new.rest.now ≤ length self.old.rest.now) }
+    fn list(&mut self, left: u32, last: Last) -> Result<CommandList, Fault>
+        ensures { OnOk result (self.new ≤ self.old) }
     {
         if left == 0 {
             return Err(self.refuse(Expected::LessDepth));
@@ -711,12 +725,12 @@ impl<'t> Parser<'t> {
             }
             let and_or = self.and_or(left - 1)?;
             let terminator = self.take_terminator();
-            if terminator.is_none() && last == Terminator::Needed {
+            if terminator.is_none() && last == Last::Ended {
                 return Err(self.refuse(Expected::Terminator));
             }
             list.push(Item {
                 and_or,
-                background: terminator.unwrap_or(false),
+                background: terminator == Some(Terminator::Background),
             })?;
             if terminator.is_none() {
                 break;
@@ -724,19 +738,6 @@ impl<'t> Parser<'t> {
         }
         Ok(list)
     }
-}
-
-/// The other reserved words end the list that they stand behind.
-fn begins_command(keyword: Keyword) -> bool {
-    matches!(
-        keyword,
-        Keyword::If
-            | Keyword::While
-            | Keyword::For
-            | Keyword::Case
-            | Keyword::OpenBrace
-            | Keyword::Not
-    )
 }
 
 /// The tree of a text, which has at most so many bytes.
@@ -755,7 +756,7 @@ pub fn parse(heap: Global, text: &[u8]) -> Result<CommandList, Fault>
         rest: &tokens,
         end: text.len(),
     };
-    let list = parser.list(LEVELS, Terminator::Optional)?;
+    let list = parser.list(LEVELS, Last::Open)?;
     if parser.rest.is_empty() {
         Ok(list)
     } else {

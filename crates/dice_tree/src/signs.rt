@@ -53,6 +53,21 @@ impl<'t> TryFrom<&'t [u8]> for Keyword {
     }
 }
 
+impl Keyword {
+    /// The others end the list that they stand behind.
+    pub fn begins_command(self) -> bool {
+        matches!(
+            self,
+            Keyword::If
+                | Keyword::While
+                | Keyword::For
+                | Keyword::Case
+                | Keyword::OpenBrace
+                | Keyword::Not
+        )
+    }
+}
+
 impl fmt::Display for Keyword {
     fn fmt<W: fmt::Write>(&self, f: &mut fmt::Formatter<W>) -> fmt::Result {
         f.write_str(match self {

@@ -201,7 +201,7 @@ impl<'t> Unexpanded<'t> {
 }
 
 /// What was expected where reading stopped.
-#[derive(Clone, Copy)]
+#[derive(Clone, Copy, PartialEq, Eq, Debug)]
 pub enum Expected {
     Command,
     Word,
@@ -235,7 +235,7 @@ impl fmt::Display for Expected {
 }
 
 /// A text that is no list of commands: the byte at which reading stopped, and what was expected there.
-#[derive(Clone, Copy)]
+#[derive(Clone, Copy, PartialEq, Eq, Debug)]
 pub struct NoText {
     pub place: usize,
     pub expected: Expected,
@@ -245,20 +245,13 @@ pub struct NoText {
 pub fn line_and_column(text: &[u8], place: usize) -> (usize, usize)
     ensures { (1 ≤ result.0) × (1 ≤ result.1) }
 {
-    let mut line = 1usize;
-    let mut column = 1usize;
-    for c in text.iter().take(place) {
-        if *c == b'\n' {
-            line = line.saturating_add(1);
-            column = 1;
-        } else {
-            column = column.saturating_add(1);
-        }
-    }
+    let before = text.get(..place).unwrap_or(text);
+    let line = before.iter().filter(|c| **c == b'\n').count() + 1;
+    let column = before.iter().rev().take_while(|c| **c != b'\n').count() + 1;
     (line, column)
 }
 
-#[derive(Drop)]
+#[derive(Debug, Drop)]
 pub enum Fault {
     NoText(NoText),
     Memory,

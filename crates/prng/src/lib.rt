@@ -2,7 +2,7 @@
 
 #![tactic(auto)]
 
-ghost use Rattle.std.specs.Prelude.{◌≡◌, ◌+◌, ◌%◌, ◌^◌, ◌<◌};
+ghost use Rattle.std.specs.Prelude.{◌≡◌, ◌+◌, ◌%◌, ◌^◌, ◌<◌, ◌↔◌, length, Contains, IfSome, IsSome};
 
 /// Numbers that look random, the same for the same seed.
 #[derive(Clone, Copy)]
@@ -35,5 +35,13 @@ impl Dice {
             return 0;
         }
         (self.next() % (n as u64)) as usize
+    }
+
+    /// One of these, if there are any.
+    pub fn choose<'a, T>(&mut self, items: &'a [T]) -> Option<&'a T>
+        ensures found { IsSome result ↔ (0 < length items.now) }
+        ensures one_of_them { IfSome result (λ item. Contains items.now item.now) }
+    {
+        items.get(self.below(items.len()))
     }
 }

@@ -16,11 +16,17 @@ const STEPS: usize = 6000;
 /// A text has at most so many bytes.
 const MOST_BYTES: usize = 4000;
 
-const LISTS: [&str; 3] = ["@I", "@I@I", "@I@I@I"];
+const LISTS: &[&str] = &["@I", "@I@I", "@I@I@I"];
 
-const ITEMS: [&str; 5] = ["@A; ", "@A; ", "@A\n", "@A\n\n", "@A & "];
+const ITEMS: &[(u64, &str)] = &[
+    (0, "@A; "),
+    (0, "@A; "),
+    (0, "@A\n"),
+    (0, "@A\n\n"),
+    (5, "@A & "),
+];
 
-const AND_ORS: [&str; 7] = [
+const AND_ORS: &[&str] = &[
     "@P",
     "@P",
     "@P",
@@ -30,7 +36,7 @@ const AND_ORS: [&str; 7] = [
     "@P && @P || @P",
 ];
 
-const PIPELINES: [&str; 8] = [
+const PIPELINES: &[&str] = &[
     "@C",
     "@C",
     "@C",
@@ -42,57 +48,53 @@ const PIPELINES: [&str; 8] = [
 ];
 
 /// Commands of calm texts, by stage.
-const CALM_COMMANDS: [&str; 14] = [
-    "@S",
-    "@S",
-    "@S",
-    "@S",
-    "{ @L}",
-    "if @Lthen @Lfi",
-    "if @Lthen @Lelse @Lfi",
-    "if @Lthen @Lelif @Lthen @Lelse @Lfi",
-    "i=; while test \"$i\" != aa; do i=a$i; @Ldone",
-    "while false; do @Ldone",
-    "for x in @W @W; do @Ldone",
-    "for y in @W; do @Ldone",
-    "case @W in when @W; @L;; when *; @L;; esac",
-    "( @L)",
+const CALM_COMMANDS: &[(u64, &str)] = &[
+    (0, "@S"),
+    (0, "@S"),
+    (0, "@S"),
+    (0, "@S"),
+    (0, "{ @L}"),
+    (0, "if @Lthen @Lfi"),
+    (0, "if @Lthen @Lelse @Lfi"),
+    (0, "if @Lthen @Lelif @Lthen @Lelse @Lfi"),
+    (0, "i=; while test \"$i\" != aa; do i=a$i; @Ldone"),
+    (0, "while false; do @Ldone"),
+    (4, "for x in @W @W; do @Ldone"),
+    (4, "for y in @W; do @Ldone"),
+    (4, "case @W in when @W; @L;; when *; @L;; esac"),
+    (5, "( @L)"),
 ];
-
-const CALM_COUNTS: [usize; 6] = [10, 10, 10, 10, 13, 14];
 
 /// Commands of other texts, by stage.
-const COMMANDS: [&str; 24] = [
-    "@S",
-    "@S",
-    "@S",
-    "@S",
-    "{ @L}",
-    "if @Lthen @Lfi",
-    "if @Lthen @Lelse @Lfi",
-    "i=; while test \"$i\" != aa; do i=a$i; @Ldone",
-    "{ @L} > @F",
-    "{ @L} < @F",
-    "{ @L} >> @F << @W",
-    "while read x; do @Ldone << 'a b\nc\n'",
-    "if @Lthen @Lfi > @F",
-    "f() { @L}",
-    "g() { @L}",
-    "f @W",
-    "g @W @W",
-    "for x in @W @W; do @Ldone",
-    "for y in @W; do @Ldone > @F",
-    "case @W in when @W; @L;; when *; @L;; esac",
-    "( @L)",
-    "( @L) > @F",
-    "( @L)",
-    "wait",
+const COMMANDS: &[(u64, &str)] = &[
+    (0, "@S"),
+    (0, "@S"),
+    (0, "@S"),
+    (0, "@S"),
+    (0, "{ @L}"),
+    (0, "if @Lthen @Lfi"),
+    (0, "if @Lthen @Lelse @Lfi"),
+    (0, "i=; while test \"$i\" != aa; do i=a$i; @Ldone"),
+    (0, "{ @L} > @F"),
+    (0, "{ @L} < @F"),
+    (0, "{ @L} >> @F << @W"),
+    (0, "while read x; do @Ldone << 'a b\nc\n'"),
+    (0, "if @Lthen @Lfi > @F"),
+    (3, "f() { @L}"),
+    (3, "g() { @L}"),
+    (3, "f @W"),
+    (3, "g @W @W"),
+    (4, "for x in @W @W; do @Ldone"),
+    (4, "for y in @W; do @Ldone > @F"),
+    (4, "case @W in when @W; @L;; when *; @L;; esac"),
+    (5, "( @L)"),
+    (5, "( @L) > @F"),
+    (5, "( @L)"),
+    (5, "wait"),
 ];
 
-const COUNTS: [usize; 6] = [13, 13, 13, 17, 20, 24];
-
 /// Simple commands.
-const SIMPLE: [&str; 36] = [
+const SIMPLE: &[&str] = &[
     "echo @W",
     "echo @W @W",
     "echo @W",
@@ -132,197 +134,244 @@ const SIMPLE: [&str; 36] = [
 ];
 
 /// Commands inside a pipeline of a calm text, by stage.
-const MEMBERS: [&str; 20] = [
-    "cat",
-    "cat",
-    "head @N",
-    "wc",
-    "grep @B",
-    "seq @N",
-    "echo @V @V",
-    "true",
-    "false",
-    "cat < @F",
-    "cat << @V",
-    "test @V = @V",
-    "@X=@V",
-    "exit @N",
-    "{ @T; @T; }",
-    "if @T; then @T; @T; fi",
-    "while false; do @T; done",
-    "for x in @V @V; do @T; done",
-    "case @V in when @V; @T ;; esac",
-    "( @T; @T )",
+const MEMBERS: &[(u64, &str)] = &[
+    (0, "cat"),
+    (0, "cat"),
+    (0, "head @N"),
+    (0, "wc"),
+    (0, "grep @B"),
+    (0, "seq @N"),
+    (0, "echo @V @V"),
+    (0, "true"),
+    (0, "false"),
+    (0, "cat < @F"),
+    (0, "cat << @V"),
+    (0, "test @V = @V"),
+    (0, "@X=@V"),
+    (0, "exit @N"),
+    (0, "{ @T; @T; }"),
+    (0, "if @T; then @T; @T; fi"),
+    (0, "while false; do @T; done"),
+    (4, "for x in @V @V; do @T; done"),
+    (4, "case @V in when @V; @T ;; esac"),
+    (5, "( @T; @T )"),
 ];
 
-const MEMBER_COUNTS: [usize; 6] = [17, 17, 17, 17, 19, 20];
+/// The first so many of them stand in the lists of the others.
+const INNER_MEMBERS: usize = 12;
 
 /// Words, by stage.
-const WORDS: [&str; 24] = [
-    "@B",
-    "@B",
-    "'@B @B'",
-    "\"@B  $x\"",
-    "$x",
-    "$y",
-    "\"$x\"",
-    "$?",
-    "$x@B",
-    "a$",
-    "''",
-    "'*'",
-    "$z'@B'\"$y\"",
-    "$(@L)",
-    "\"$(@L)\"",
-    "a$(@L)b",
-    "$(@A)",
-    "$1",
-    "\"$2\"",
-    "$#",
-    "*",
-    "f*",
-    "?",
-    "\"f\"?*",
+const WORDS: &[(u64, &str)] = &[
+    (0, "@B"),
+    (0, "@B"),
+    (0, "'@B @B'"),
+    (0, "\"@B  $x\""),
+    (0, "$x"),
+    (0, "$y"),
+    (0, "\"$x\""),
+    (0, "$?"),
+    (0, "$x@B"),
+    (0, "a$"),
+    (0, "''"),
+    (0, "'*'"),
+    (0, "$z'@B'\"$y\""),
+    (2, "$(@L)"),
+    (2, "\"$(@L)\""),
+    (2, "a$(@L)b"),
+    (2, "$(@A)"),
+    (3, "$1"),
+    (3, "\"$2\""),
+    (3, "$#"),
+    (4, "*"),
+    (4, "f*"),
+    (4, "?"),
+    (4, "\"f\"?*"),
 ];
 
-const WORD_COUNTS: [usize; 6] = [13, 13, 17, 20, 24, 24];
-
 /// Words without $( ).
-const PLAIN: [&str; 7] = ["@B", "@B", "'@B @B'", "$x", "\"$y\"", "$?", "f*"];
+const PLAIN: &[(u64, &str)] = &[
+    (0, "@B"),
+    (0, "@B"),
+    (0, "'@B @B'"),
+    (0, "$x"),
+    (0, "\"$y\""),
+    (0, "$?"),
+    (4, "f*"),
+];
 
-const BYTES: [&str; 10] = ["a", "b", "ab", "c", "1", "2", "10", "-n", "x=y", "a#b"];
+const BYTES: &[&str] = &["a", "b", "ab", "c", "1", "2", "10", "-n", "x=y", "a#b"];
 
-const NUMBERS: [&str; 8] = ["0", "1", "2", "3", "5", "12", "20", "300"];
+const NUMBERS: &[&str] = &["0", "1", "2", "3", "5", "12", "20", "300"];
 
-const FILES: [&str; 4] = ["f", "g", "h", "'f g'"];
+const FILES: &[&str] = &["f", "g", "h", "'f g'"];
 
-const NAMES: [&str; 3] = ["x", "y", "z"];
+const NAMES: &[&str] = &["x", "y", "z"];
 
 /// What is put into a text to spoil it.
-const SPOILERS: [&str; 24] = [
+const SPOILERS: &[&str] = &[
     "'", "\"", "(", ")", "$(", ";;", "; ;", "| |", "&&", "||", "> >", "<", " fi ", " done ",
     " then ", " do ", " } ", " { ", " esac ", " if ", " while ", " for ", " case ", " ! ! ",
 ];
 
+/// What @ and a letter stand for.
+#[derive(Clone, Copy, PartialEq, Eq, Debug)]
+enum Kind {
+    List,
+    Item,
+    AndOr,
+    Pipeline,
+    Command,
+    /// A command inside a pipeline.
+    Member,
+    /// A command of a list inside a pipeline.
+    InnerMember,
+    Simple,
+    Word,
+    /// A word without $( ).
+    PlainWord,
+    Bytes,
+    Number,
+    File,
+    Name,
+}
+
+/// A letter that stands for nothing.
+#[derive(Clone, Copy, PartialEq, Eq, Debug)]
+struct NoKind;
+
+impl TryFrom<u8> for Kind {
+    type Error = NoKind;
+
+    fn try_from(letter: u8) -> Result<Kind, NoKind> {
+        match letter {
+            b'L' => Ok(Kind::List),
+            b'I' => Ok(Kind::Item),
+            b'A' => Ok(Kind::AndOr),
+            b'P' => Ok(Kind::Pipeline),
+            b'C' => Ok(Kind::Command),
+            b'M' => Ok(Kind::Member),
+            b'T' => Ok(Kind::InnerMember),
+            b'S' => Ok(Kind::Simple),
+            b'W' => Ok(Kind::Word),
+            b'V' => Ok(Kind::PlainWord),
+            b'B' => Ok(Kind::Bytes),
+            b'N' => Ok(Kind::Number),
+            b'F' => Ok(Kind::File),
+            b'X' => Ok(Kind::Name),
+            _ => Err(NoKind),
+        }
+    }
+}
+
 #[derive(Drop)]
 struct Generator {
     dice: Dice,
-    stage: usize,
+    stage: u64,
     calm: bool,
     /// What is still to come, the next byte last.
     rest: Vec<u8>,
     text: Vec<u8>,
 }
 
-/// One of the first `count` templates of a table.
-fn choose(g: &mut Generator, table: &[&'static str], count: usize) -> &'static str {
-    let i = g.dice.below(count.min(table.len()));
-    match table.get(i) {
-        Some(template) => *template,
-        None => "",
+impl Generator {
+    fn choose(&mut self, templates: &[&'static str]) -> &'static str {
+        self.dice.choose(templates).copied().unwrap_or("")
     }
-}
 
-/// The shortest template, where a text is long enough.
-fn shortest(code: u8, calm: bool) -> Option<&'static str> {
-    match code {
-        b'L' => Some("@I"),
-        b'I' => Some("@A; "),
-        b'A' => Some("@P"),
-        b'P' => Some("@C"),
-        b'C' => Some("@S"),
-        b'M' if calm => Some("cat"),
-        b'M' => Some("@S"),
-        b'W' | b'V' => Some("@B"),
-        _ => None,
+    /// One of the templates whose stage is at most this; they stand by stage.
+    fn choose_up_to(&mut self, stage: u64, templates: &[(u64, &'static str)]) -> &'static str {
+        let count = templates.partition_point(|template| template.0 <= stage);
+        match self.dice.choose(templates.get(..count).unwrap_or(&[])) {
+            Some((_, template)) => template,
+            None => "",
+        }
     }
-}
 
-fn count_of(counts: &[usize; 6], stage: usize) -> usize {
-    counts.get(stage).copied().unwrap_or(1)
-}
-
-/// A template for lists, commands and what they are made of.
-fn command_template(g: &mut Generator, code: u8) -> &'static str {
-    let stage = g.stage;
-    match code {
-        b'L' => choose(g, &LISTS, 3),
-        b'I' if stage == 5 && !g.calm => choose(g, &ITEMS, 5),
-        b'I' => choose(g, &ITEMS, 4),
-        b'A' => choose(g, &AND_ORS, 7),
-        b'P' if stage == 0 => "@C",
-        b'P' => choose(g, &PIPELINES, 8),
-        b'C' if g.calm => choose(g, &CALM_COMMANDS, count_of(&CALM_COUNTS, stage)),
-        b'C' => choose(g, &COMMANDS, count_of(&COUNTS, stage)),
-        b'M' if g.calm => choose(g, &MEMBERS, count_of(&MEMBER_COUNTS, stage)),
-        b'M' => "@C",
-        b'T' => choose(g, &MEMBERS, 12),
-        b'S' => choose(g, &SIMPLE, 36),
-        _ => word_template(g, code),
+    /// One of the templates of the text's stages.
+    fn choose_by_stage(&mut self, templates: &[(u64, &'static str)]) -> &'static str {
+        self.choose_up_to(self.stage, templates)
     }
-}
 
-/// A template for words and their parts.
-fn word_template(g: &mut Generator, code: u8) -> &'static str {
-    let stage = g.stage;
-    match code {
-        b'W' => choose(g, &WORDS, count_of(&WORD_COUNTS, stage)),
-        b'V' if stage < 4 => choose(g, &PLAIN, 6),
-        b'V' => choose(g, &PLAIN, 7),
-        b'B' => choose(g, &BYTES, 10),
-        b'N' => choose(g, &NUMBERS, 8),
-        b'F' => choose(g, &FILES, 4),
-        b'X' => choose(g, &NAMES, 3),
-        _ => "",
+    /// The shortest template, where a text is long enough.
+    fn shortest(&self, kind: Kind) -> Option<&'static str> {
+        match kind {
+            Kind::List => Some("@I"),
+            Kind::Item => Some("@A; "),
+            Kind::AndOr => Some("@P"),
+            Kind::Pipeline => Some("@C"),
+            Kind::Command => Some("@S"),
+            Kind::Member if self.calm => Some("cat"),
+            Kind::Member => Some("@S"),
+            Kind::Word | Kind::PlainWord => Some("@B"),
+            _ => None,
+        }
     }
-}
 
-fn push_template(g: &mut Generator, template: &str) -> Result<(), AllocError> {
-    for b in template.as_bytes().iter().rev() {
-        g.rest.push(*b)?;
+    /// A template of this kind. A calm text has no & behind a command.
+    fn template(&mut self, kind: Kind) -> &'static str {
+        match kind {
+            Kind::List => self.choose(LISTS),
+            Kind::Item if self.calm => self.choose_up_to(4, ITEMS),
+            Kind::Item => self.choose_by_stage(ITEMS),
+            Kind::AndOr => self.choose(AND_ORS),
+            Kind::Pipeline if self.stage == 0 => "@C",
+            Kind::Pipeline => self.choose(PIPELINES),
+            Kind::Command if self.calm => self.choose_by_stage(CALM_COMMANDS),
+            Kind::Command => self.choose_by_stage(COMMANDS),
+            Kind::Member if self.calm => self.choose_by_stage(MEMBERS),
+            Kind::Member => "@C",
+            Kind::InnerMember => self.choose_by_stage(&MEMBERS[..INNER_MEMBERS]),
+            Kind::Simple => self.choose(SIMPLE),
+            Kind::Word => self.choose_by_stage(WORDS),
+            Kind::PlainWord => self.choose_by_stage(PLAIN),
+            Kind::Bytes => self.choose(BYTES),
+            Kind::Number => self.choose(NUMBERS),
+            Kind::File => self.choose(FILES),
+            Kind::Name => self.choose(NAMES),
+        }
     }
-    Ok(())
-}
 
-/// One byte of what is to come: it goes into the text, or @ and a letter become a template. False at the end.
-fn grow(g: &mut Generator) -> Result<bool, AllocError> {
-    let Some(byte) = g.rest.pop() else {
-        return Ok(false);
-    };
-    if byte != b'@' {
-        g.text.push(byte)?;
-        return Ok(true);
+    fn push_template(&mut self, template: &str) -> Result<(), AllocError> {
+        self.rest.extend(template.bytes().rev())
     }
-    let code = g.rest.pop().unwrap_or(b'B');
-    let full = g.text.len() > BUDGET || g.rest.len() > BUDGET;
-    let template = match shortest(code, g.calm) {
-        Some(short) if full => short,
-        _ => command_template(g, code),
-    };
-    push_template(g, template)?;
-    Ok(true)
+
+    /// The next byte of what is to come: it goes into the text, or @ and a letter become a template.
+    fn grow(&mut self, byte: u8) -> Result<(), AllocError> {
+        if byte != b'@' {
+            self.text.push(byte)?;
+            return Ok(());
+        }
+        let Some(Ok(kind)) = self.rest.pop().map(|letter| Kind::try_from(letter)) else {
+            return Ok(());
+        };
+        let full = self.text.len() > BUDGET || self.rest.len() > BUDGET;
+        let template = match self.shortest(kind) {
+            Some(short) if full => short,
+            _ => self.template(kind),
+        };
+        self.push_template(template)
+    }
 }
 
 /// A random text: its stage is at most the seed's remainder by 6, and each second six are calm.
 pub fn random_text(heap: Global, seed: u64) -> Result<Vec<u8>, AllocError>
     ensures { IfOk result (λ t. vec_len t ≤ 4000) }
 {
-    let dice = Dice::new(seed);
-    let stage = (seed % 6) as usize;
-    let mut g = Generator {
-        dice,
-        stage,
+    let mut generator = Generator {
+        dice: Dice::new(seed),
+        stage: seed % 6,
         calm: seed / 6 % 2 == 0,
         rest: Vec::new(heap),
         text: Vec::new(heap),
     };
-    push_template(&mut g, "@L@L")?;
+    generator.push_template("@L@L")?;
     for _ in 0..STEPS {
-        if !grow(&mut g)? {
+        let Some(byte) = generator.rest.pop() else {
             break;
-        }
+        };
+        generator.grow(byte)?;
     }
-    let Generator { mut text, .. } = g;
+    let Generator { mut text, .. } = generator;
     text.truncate(MOST_BYTES);
     Ok(text)
 }
@@ -333,11 +382,11 @@ pub fn mutated_text(heap: Global, seed: u64) -> Result<Vec<u8>, AllocError>
 {
     let text = random_text(heap, seed)?;
     let mut dice = Dice::new(seed ^ 0x5555_5555);
-    let at = dice.below(text.len().saturating_add(1));
-    let spoiler = SPOILERS.get(dice.below(24)).copied().unwrap_or("'");
-    let mut spoiled = text.get(0..at).unwrap_or(&[]).to_vec(heap)?;
+    let (before, behind) = text.split_at(dice.below(text.len() + 1));
+    let spoiler = dice.choose(SPOILERS).copied().unwrap_or("'");
+    let mut spoiled = before.to_vec(heap)?;
     spoiled.extend_from_slice(spoiler.as_bytes())?;
-    spoiled.extend_from_slice(text.get(at..).unwrap_or(&[]))?;
+    spoiled.extend_from_slice(behind)?;
     spoiled.truncate(MOST_BYTES);
     Ok(spoiled)
 }

@@ -1,6 +1,6 @@
 -- Lists in lists: each level of them is one less that may come. Within a level the functions call downward; each loop goes
 -- on by a token in each turn.
-use Rattle.std.proofs.Common.{◌≤◌, length, ◌+◌, ◌*◌}
+use Rattle.std.proofs.Common.{◌≤◌, ◌+◌, ◌*◌}
 use Rattle.dice_tree.proofs.parser.Parser.+parsing.Given as goal
 
 abbrev pub decreases-and_or : goal.decreases-and_or
@@ -70,49 +70,49 @@ abbrev pub decreases-word : goal.decreases-word
 decreases-word l = 16 * l.left + 3
 
 abbrev pub invariant-and_or-loop-joiner : goal.invariant-and_or-loop-joiner
-invariant-and_or-loop-joiner l = length l.self.rest.now ≤ length l.initial.self.rest.now
+invariant-and_or-loop-joiner l = l.self ≤ l.initial.self
 
 abbrev pub decreases-and_or-loop-joiner : goal.decreases-and_or-loop-joiner
-decreases-and_or-loop-joiner l = length l.self.rest.now
+decreases-and_or-loop-joiner l = l.self
 
 abbrev pub invariant-arms-loop-self : goal.invariant-arms-loop-self
-invariant-arms-loop-self l = length l.self.rest.now ≤ length l.initial.self.rest.now
+invariant-arms-loop-self l = l.self ≤ l.initial.self
 
 abbrev pub decreases-arms-loop-self : goal.decreases-arms-loop-self
-decreases-arms-loop-self l = length l.self.rest.now
+decreases-arms-loop-self l = l.self
 
 abbrev pub invariant-assignments-loop-name : goal.invariant-assignments-loop-name
-invariant-assignments-loop-name l = length l.self.rest.now ≤ length l.initial.self.rest.now
+invariant-assignments-loop-name l = l.self ≤ l.initial.self
 
 abbrev pub decreases-assignments-loop-name : goal.decreases-assignments-loop-name
-decreases-assignments-loop-name l = length l.self.rest.now
+decreases-assignments-loop-name l = l.self
 
 abbrev pub invariant-joined_parts-loop-parts : goal.invariant-joined_parts-loop-parts
-invariant-joined_parts-loop-parts l = length l.self.rest.now ≤ length l.initial.self.rest.now
+invariant-joined_parts-loop-parts l = l.self ≤ l.initial.self
 
 abbrev pub decreases-joined_parts-loop-parts : goal.decreases-joined_parts-loop-parts
-decreases-joined_parts-loop-parts l = length l.self.rest.now
+decreases-joined_parts-loop-parts l = l.self
 
 abbrev pub invariant-list-loop-last : goal.invariant-list-loop-last
-invariant-list-loop-last l = length l.self.rest.now ≤ length l.initial.self.rest.now
+invariant-list-loop-last l = l.self ≤ l.initial.self
 
 abbrev pub decreases-list-loop-last : goal.decreases-list-loop-last
-decreases-list-loop-last l = length l.self.rest.now
+decreases-list-loop-last l = l.self
 
 abbrev pub invariant-more_words-loop-words : goal.invariant-more_words-loop-words
-invariant-more_words-loop-words l = length l.self.rest.now ≤ length l.initial.self.rest.now
+invariant-more_words-loop-words l = l.self ≤ l.initial.self
 
 abbrev pub decreases-more_words-loop-words : goal.decreases-more_words-loop-words
-decreases-more_words-loop-words l = length l.self.rest.now
+decreases-more_words-loop-words l = l.self
 
 abbrev pub invariant-pipeline-loop-commands : goal.invariant-pipeline-loop-commands
-invariant-pipeline-loop-commands l = length l.self.rest.now ≤ length l.initial.self.rest.now
+invariant-pipeline-loop-commands l = l.self ≤ l.initial.self
 
 abbrev pub decreases-pipeline-loop-commands : goal.decreases-pipeline-loop-commands
-decreases-pipeline-loop-commands l = length l.self.rest.now
+decreases-pipeline-loop-commands l = l.self
 
 abbrev pub invariant-redirects-loop-kind : goal.invariant-redirects-loop-kind
-invariant-redirects-loop-kind l = length l.self.rest.now ≤ length l.initial.self.rest.now
+invariant-redirects-loop-kind l = l.self ≤ l.initial.self
 
 abbrev pub decreases-redirects-loop-kind : goal.decreases-redirects-loop-kind
-decreases-redirects-loop-kind l = length l.self.rest.now
+decreases-redirects-loop-kind l = l.self
