@@ -32,6 +32,7 @@ impl Part {
     }
 }
 
+/// A part of entry i.
 fn read(w: &[u32], i: usize, part: Part) -> usize
     requires { 8 * i + 7 < length w.now }
     ensures { result ≡ field w.now i (place part) }
@@ -39,6 +40,7 @@ fn read(w: &[u32], i: usize, part: Part) -> usize
     wide(w, 8 * i + part.place())
 }
 
+/// Writes a part of entry i.
 fn write(w: &mut [u32], i: usize, part: Part, v: usize)
     requires { 8 * i + 7 < length w.old }
     ensures { w.new ≡ filed w.old i (place part) v }

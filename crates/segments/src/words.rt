@@ -2,6 +2,7 @@
 ghost use Rattle.std.specs.Prelude.{◌≡◌, ℕ, ◌+◌, ◌<◌, ◌≤◌, ◌⊎◌, List, [], ◌∷◌, length, take, drop};
 ghost use Rattle.segments.specs.Words.{at64, put64, Written};
 
+/// The number in the words at k.
 pub fn wide(t: &[u32], k: usize) -> usize
     requires { k + 1 < length t.now }
     ensures { result ≡ at64 t.now k }
@@ -9,6 +10,7 @@ pub fn wide(t: &[u32], k: usize) -> usize
     t[k] as usize + 4294967296 * (t[k + 1] as usize)
 }
 
+/// Puts a number into the words at k.
 pub fn put_wide(t: &mut [u32], k: usize, v: usize)
     requires { k + 1 < length t.old }
     ensures { t.new ≡ put64 t.old k v }
@@ -26,6 +28,7 @@ pub fn copy_words(w: &mut [u32], at: usize, to: usize, len: usize)
     w.copy_within(at..at + len, to);
 }
 
+/// The words of a slice go to `to`.
 pub fn put_words(w: &mut [u32], to: usize, xs: &[u32])
     requires { to + length xs.now ≤ length w.old }
     ensures { Written w.old w.new to xs.now }

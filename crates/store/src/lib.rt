@@ -61,6 +61,8 @@ pub struct Store<'a> {
     moved: usize,
 }
 
+// The view keeps all fields, since the contracts of the private calls say where the lists lie. Other crates see it by `model`, `bounds`, `spent`
+// and `shifts` alone.
 impl<'a> Model for Store<'a> {
     ghost use Rattle.store.specs.Layout.{Layout};
 
@@ -230,6 +232,7 @@ impl Store<'_> {
     }
 
     /// One word more at the end of list i, or a refusal.
+    // Not by `extend`: what a machine does for a byte would take a tenth longer (bench/store).
     pub fn push(&mut self, i: usize, v: u32) -> Result<(), Refusal>
         ensures same { bounds self.new ≡ bounds self.old }
         ensures after { MatchResult result (λ _. model self.new ≡ slice_set (model self.old) i (slice_index_or (model self.old) i [] ++ (v ∷ []))) (λ _. model self.new ≡ model self.old) }
