@@ -83,8 +83,7 @@ impl TryFrom<[u32; 3]> for Frame {
 
 /// One frame more, if there is one to push; or a refusal.
 pub fn push_frame(st: &mut Store, process: Process, frame: Option<Frame>) -> Result<(), Refusal>
-    ensures same { bounds st.new ≡ bounds st.old }
-    ensures says { Pushed (bounds st.old) process.base (model st.old) (model st.new) (framed frame) result }
+    ensures { Pushed st.old st.new process.base (framed frame) result }
 {
     let Some(frame) = frame else {
         return Ok(());

@@ -6,7 +6,7 @@ ghost use Rattle.machine.specs.Commands.{name_of};
 use crate::expansion::word_len;
 
 /// The commands of the shell; any other name is none.
-#[derive(Clone, Copy)]
+#[derive(Clone, Copy, Debug, PartialEq, Eq)]
 pub enum BuiltinName {
     Echo,
     Cat,

@@ -10,7 +10,7 @@ use code::Code;
 use store::Store;
 
 /// How a stretch ended where nothing stopped it.
-#[derive(Clone, Copy)]
+#[derive(Clone, Copy, Debug, PartialEq, Eq)]
 pub enum Ending {
     /// all moves that were allowed are made
     Spent,
@@ -18,7 +18,7 @@ pub enum Ending {
 }
 
 /// What a stretch led to: the process, up to which place the paper is printed, how many moves were made, why it ended.
-#[derive(Clone, Copy)]
+#[derive(Clone, Copy, Debug, PartialEq, Eq)]
 pub struct Stretch {
     pub process: Process,
     pub place: usize,
@@ -35,8 +35,7 @@ pub fn run_stretch(
     process: Process,
     most: u32,
 ) -> Stretch
-    ensures same { bounds st.new ≡ bounds st.old }
-    ensures says { Stretched code.entry.text.now code.entry.words.now (bounds st.old) (model st.old) (model st.new) paper.old paper.new place process most result }
+    ensures says { Stretched code.entry.text.now code.entry.words.now st.old st.new paper.old paper.new place process most result }
     ensures onward { Onward code.entry.text.now code.entry.words.now (bounds st.old).1 (model st.old) paper.old place process result.place }
 {
     let mut process = process;

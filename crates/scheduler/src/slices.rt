@@ -11,7 +11,7 @@ use machine::{Control, Ending, Halt, Process, run_stretch};
 use store::{Refusal, Store, store_in};
 
 /// How a run ended where nothing stopped it.
-#[derive(Clone, Copy)]
+#[derive(Clone, Copy, Debug, PartialEq, Eq)]
 pub enum End {
     /// all processes have exited, the first one with this status
     Exited(u32),
@@ -22,7 +22,7 @@ pub enum End {
 }
 
 /// What a run came to, with how many bytes stand on the paper.
-#[derive(Clone, Copy)]
+#[derive(Clone, Copy, Debug, PartialEq, Eq)]
 pub struct Outcome {
     pub printed: usize,
     pub end: Result<End, Halt>,
@@ -66,6 +66,7 @@ fn run_slices(
     let mut process = first_process(root);
     let mut printed = 0;
     let mut made = 0;
+    // The last slice may be shorter, so the moves are counted here.
     while made < most {
         if first_ready(st).is_none() {
             return Outcome {
