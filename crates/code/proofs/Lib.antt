@@ -1,0 +1,2 @@
+-- Laws of chains.
+pub mod Chains

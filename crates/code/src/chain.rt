@@ -1,7 +1,7 @@
 //! Chains of cells: the first word of each is the address of the next, or 0.
 ghost use Rattle.std.specs.Prelude.{◌≡◌, ◌+◌, length};
 ghost use Rattle.std.specs.Iterator.{YieldsFirst, item_count};
-ghost use Rattle.code.specs.Chains.{cells, links_of};
+ghost use Rattle.code.specs.Chains.{chain_of, links_of};
 
 /// The addresses of a chain's cells, from the first to the last. A chain that ends has at most one cell more than there
 /// are words of code, and one that does not is followed no further.
@@ -14,7 +14,7 @@ pub struct Chain<'a> {
 
 impl<'a> Chain<'a> {
     pub(crate) fn new(words: &'a [u32], first: u32) -> Self
-        ensures { links_of result ≡ cells words.now (length words.now + 1) first }
+        ensures { links_of result ≡ chain_of words.now first }
     {
         Chain {
             words,

@@ -3,7 +3,7 @@
 
 ghost use Rattle.std.specs.Prelude.{◌≡◌, ◌+◌, ◌<◌, length, take, drop, slice_index, MatchOption};
 ghost use Rattle.code.specs.Cells.{CommandIs, PartIs, AssignmentIs, RedirectIs, item_at, and_or_at, arm_at};
-ghost use Rattle.code.specs.Chains.{cells, links_of};
+ghost use Rattle.code.specs.Chains.{chain_of, links_of};
 
 pub use crate::cells::{AndOr, Arm, Assignment, Command, Item, Part, Redirect};
 pub use crate::chain::Chain;
@@ -12,6 +12,9 @@ pub use crate::tags::{CommandTag, PartKind, PartTag, RedirectTag, UnknownTag};
 mod cells;
 mod chain;
 mod tags;
+
+/// Lists stand less deep in one another than this.
+pub const LEVELS: u32 = 33;
 
 /// A text beside the words of its code.
 #[derive(Clone, Copy)]
@@ -51,7 +54,7 @@ impl<'a> Code<'a> {
     /// The cells of the chain whose first is at `first`; 0 begins an empty one.
     #[inline]
     pub fn chain(self, first: u32) -> Chain<'a>
-        ensures { links_of result ≡ cells self.entry.words.now (length self.entry.words.now + 1) first }
+        ensures { links_of result ≡ chain_of self.entry.words.now first }
     {
         Chain::new(self.words, first)
     }

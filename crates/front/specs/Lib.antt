@@ -1,2 +1,3 @@
--- Places in a text.
+-- Places in a text, and where it comes from.
 pub mod Places
+pub mod Sources

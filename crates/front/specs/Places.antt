@@ -1,7 +1,7 @@
 -- A place in a text as line and column, both from 1.
 use Rattle.std.specs.Prelude.{ℕ, suc, List, [], ◌∷◌, ◌==◌}
 use Rattle.syntax.specs.Base.{pick}
-use Rattle.front.specs.declared.Place.{Place}
+use Rattle.front.specs.declared.place.Place.{Place}
 
 abbrev pub after_byte : ℕ → ℕ → ℕ → Place
 after_byte c line column = pick (c == 10) (record { line = suc line; column = 1 }) (record { line = line; column = suc column })

@@ -1,13 +1,15 @@
 //! Where reading a text stopped, and what was expected there.
-ghost use Rattle.std.specs.Prelude.{ℕ, ◌≤◌, length};
+ghost use Rattle.std.specs.Prelude.{◌≡◌, IfOk, MatchResult};
+ghost use Rattle.reader.specs.Answer.{IsProgram, NoProgram};
 
-use crate::place_at;
-use reader::{Expected, Program, SyntaxError, read};
+use crate::place::place_at;
+use code::Code;
+use lexer::MAX_TEXT;
+use reader::{
+    CODE_EXTRA, CODE_PER_BYTE, Expected, Program, SyntaxError, TOKENS_EXTRA, TOKENS_PER_BYTE, read,
+};
 use std::alloc::{AllocError, Global};
 use std::fmt;
-
-/// The longest text that is read.
-const LONGEST: usize = 16384;
 
 /// What was expected, in words.
 pub fn expected_text(e: Expected) -> &'static str {
@@ -35,45 +37,55 @@ pub fn expected_text(e: Expected) -> &'static str {
 
 /// Why a text of this name is no list of commands.
 #[derive(Clone, Copy)]
-pub struct Fault<'n, 't> {
-    pub name: &'n str,
-    pub text: &'t [u8],
+pub struct Fault<'a> {
+    pub name: &'a str,
+    pub text: &'a [u8],
     pub error: SyntaxError,
 }
 
-impl fmt::Display for Fault<'_, '_> {
+impl fmt::Display for Fault<'_> {
     fn fmt<W: fmt::Write>(&self, f: &mut fmt::Formatter<W>) -> fmt::Result {
         let name = self.name;
-        let place = place_at(self.text, self.error.at.min(LONGEST));
-        let line = place.line;
-        let column = place.column;
+        let place = place_at(self.text, self.error.at);
         let expected = expected_text(self.error.expected);
-        write!(f, "{name}:{line}:{column}: expected {expected}")
+        write!(f, "{name}:{place}: expected {expected}")
     }
 }
 
-/// A text that was read: its code, or why it is none.
+/// The code of a text that was read.
 #[derive(Drop)]
 pub struct Reading {
-    pub code: Vec<u32>,
-    pub program: Result<Program, SyntaxError>,
+    pub words: Vec<u32>,
+    pub program: Program,
+}
+
+impl Reading {
+    /// The code beside its text.
+    pub fn code<'a>(&'a self, text: &'a [u8]) -> Code<'a>
+        ensures text { result.text.now ≡ text.now }
+        ensures words { result.words.now ≡ self.now.words.items }
+    {
+        Code {
+            text,
+            words: &self.words,
+        }
+    }
 }
 
 /// Reads a text into words of its own.
-pub fn read_text(heap: Global, text: &[u8]) -> Result<Reading, AllocError> {
-    let n = text.len();
-    if n > LONGEST {
-        let error = SyntaxError {
-            at: LONGEST,
+pub fn read_text(heap: Global, text: &[u8]) -> Result<Result<Reading, SyntaxError>, AllocError>
+    ensures { IfOk result (λ read. MatchResult read (λ r. IsProgram text.now r.words.items r.program.root r.program.words r.program.stage) (λ e. NoProgram text.now e.at)) }
+{
+    if text.len() > MAX_TEXT {
+        return Ok(Err(SyntaxError {
+            at: MAX_TEXT,
             expected: Expected::ShorterText,
-        };
-        return Ok(Reading {
-            code: Vec::new(heap),
-            program: Err(error),
-        });
+        }));
     }
-    let mut code = vec![in heap; 0u32; 16 * n + 160]?;
-    let mut tokens = vec![in heap; 0u32; 3 * n + 6]?;
-    let program = read(text, &mut code, &mut tokens);
-    Ok(Reading { code, program })
+    let mut words = vec![in heap; 0u32; CODE_PER_BYTE * text.len() + CODE_EXTRA]?;
+    let mut tokens = vec![in heap; 0u32; TOKENS_PER_BYTE * text.len() + TOKENS_EXTRA]?;
+    match read(text, &mut words, &mut tokens) {
+        Ok(program) => Ok(Ok(Reading { words, program })),
+        Err(error) => Ok(Err(error)),
+    }
 }

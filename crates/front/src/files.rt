@@ -1,24 +1,20 @@
-//! Reading a text and an input into buffers.
-ghost use Rattle.std.specs.Prelude.{ℕ, ◌≤◌, length, Ok, Err};
+//! Reading into buffers.
+ghost use Rattle.std.specs.Prelude.{◌≤◌, length, IfOk};
 
 use std::io;
 use std::io::Read;
 
-/// Reads until the buffer is full or there is no more; how many bytes stand in it.
-pub fn fill<R: Read>(from: &mut R, buffer: &mut [u8]) -> io::Result<usize>
-    ensures within { elim result [ Ok n ↦ n ≤ length buffer.old | Err e ↦ Unit {0} ] }
+/// Reads until the buffer is full or there is no more: the bytes that were read.
+pub fn fill<'a, R: Read>(from: &mut R, buffer: &'a mut [u8]) -> io::Result<&'a [u8]>
+    ensures { IfOk result (λ bytes. length bytes.now ≤ length buffer.old) }
 {
     let mut n = 0;
-    let most = buffer.len();
-    for _ in 0..most {
-        if n >= buffer.len() {
-            break;
-        }
+    while n < buffer.len() {
         let got = from.read(&mut buffer[n..])?;
         if got == 0 {
             break;
         }
         n += got;
     }
-    Ok(n)
+    Ok(&buffer[..n])
 }

@@ -1,135 +1,129 @@
 //! The words behind a program's name.
+ghost use Rattle.std.specs.Prelude.{◌≡◌, ◌≤◌, length, take, IfOk, OnOk, string_bytes};
+ghost use Rattle.front.specs.Sources.{source_name, TextIs};
+
+use crate::files::fill;
+use std::error::Error;
+use std::str::FromStr;
+use std::{env, fmt, fs, io};
 
 /// Where the text comes from: a file by its name, or the command line itself.
-#[derive(Drop)]
+#[derive(Debug, Drop)]
 pub enum Source {
     File(String),
     Text(String),
 }
 
+impl Source {
+    /// The name of the text in messages.
+    pub fn name(&self) -> &str
+        ensures { result.now ≡ source_name self.now }
+    {
+        match self {
+            Source::File(name) => name.as_str(),
+            Source::Text(_) => "-c",
+        }
+    }
+
+    /// The text, as far as it fits into the buffer.
+    pub fn read<'a>(&'a self, rt: &HostRuntime, buffer: &'a mut [u8]) -> io::Result<&'a [u8]>
+        ensures { IfOk result (λ text. (length text.now ≤ length buffer.old) × TextIs self.now (length buffer.old) text.now) }
+    {
+        match self {
+            Source::File(name) => fill(&mut fs::open(rt, name.as_str())?, buffer),
+            Source::Text(text) => Ok(&text.as_bytes()[..text.len().min(buffer.len())]),
+        }
+    }
+}
+
+/// What is wrong with a command line.
+#[derive(Clone, Copy, Debug, PartialEq, Eq)]
+pub enum Mistake {
+    NoSuchOption,
+    NoMoves,
+    NoWords,
+    NoTextBehind,
+    TwoTexts,
+    NoText,
+}
+
+impl fmt::Display for Mistake {
+    fn fmt<W: fmt::Write>(&self, f: &mut fmt::Formatter<W>) -> fmt::Result {
+        f.write_str(match self {
+            Mistake::NoSuchOption => "no such option",
+            Mistake::NoMoves => "--moves takes a number",
+            Mistake::NoWords => "--words takes a number",
+            Mistake::NoTextBehind => "-c takes a text",
+            Mistake::TwoTexts => "more than one text",
+            Mistake::NoText => "no text",
+        })
+    }
+}
+
+impl Error for Mistake {}
+
 /// Why a program does not run a text.
-#[derive(Clone, Copy)]
+#[derive(Clone, Copy, Debug, PartialEq, Eq)]
 pub enum Usage {
     Help,
-    Wrong(&'static str),
+    Wrong(Mistake),
 }
 
-/// What the next word is for.
-#[derive(Clone, Copy)]
-enum Expects {
-    Program,
-    Option,
-    Moves,
-    Words,
-    Text,
+impl From<Mistake> for Usage {
+    fn from(mistake: Mistake) -> Usage {
+        Usage::Wrong(mistake)
+    }
 }
 
-/// What the words so far say.
-#[derive(Drop)]
+/// What the words of a command line say.
+#[derive(Debug, Drop)]
 pub struct Options {
-    expects: Expects,
     pub input: bool,
     pub moves: Option<u64>,
     pub words: Option<usize>,
-    pub source: Option<Source>,
+    pub source: Source,
 }
 
 impl Options {
-    pub fn new() -> Self {
-        Options {
-            expects: Expects::Program,
-            input: true,
-            moves: None,
-            words: None,
-            source: None,
-        }
-    }
-
-    fn option(self, word: String) -> Result<Self, Usage> {
-        let w = word.as_str();
-        if w == "-n" {
-            return Ok(Options {
-                input: false,
-                ..self
-            });
-        }
-        if w == "--moves" {
-            return Ok(Options {
-                expects: Expects::Moves,
-                ..self
-            });
-        }
-        if w == "--words" {
-            return Ok(Options {
-                expects: Expects::Words,
-                ..self
-            });
-        }
-        if w == "-c" {
-            return Ok(Options {
-                expects: Expects::Text,
-                ..self
-            });
-        }
-        if w == "--help" || w == "-h" {
-            return Err(Usage::Help);
-        }
-        if w.starts_with("-") {
-            return Err(Usage::Wrong("no such option"));
-        }
-        self.from(Source::File(word))
-    }
-
-    fn from(self, source: Source) -> Result<Self, Usage> {
-        if self.source.is_some() {
-            return Err(Usage::Wrong("more than one text"));
+    /// Reads the words behind a program's name.
+    pub(crate) fn parse(mut words: env::Args) -> Result<Options, Usage> {
+        let mut input = true;
+        let mut moves = None;
+        let mut limit = None;
+        let mut source = None;
+        while let Some(word) = words.next() {
+            match word.as_str() {
+                "-n" => input = false,
+                "--moves" => moves = Some(number(words.next()).ok_or(Mistake::NoMoves)?),
+                "--words" => limit = Some(number(words.next()).ok_or(Mistake::NoWords)?),
+                "-c" => {
+                    let text = words.next().ok_or(Mistake::NoTextBehind)?;
+                    put(&mut source, Source::Text(text))?;
+                }
+                "-h" | "--help" => return Err(Usage::Help),
+                w if w.starts_with("-") => return Err(Mistake::NoSuchOption.into()),
+                _ => put(&mut source, Source::File(word))?,
+            }
         }
         Ok(Options {
-            expects: Expects::Option,
-            source: Some(source),
-            ..self
+            input,
+            moves,
+            words: limit,
+            source: source.ok_or(Mistake::NoText)?,
         })
     }
+}
 
-    /// One word more.
-    pub fn take(self, word: String) -> Result<Self, Usage> {
-        match self.expects {
-            Expects::Program => Ok(Options {
-                expects: Expects::Option,
-                ..self
-            }),
-            Expects::Option => self.option(word),
-            Expects::Moves => match word.as_str().parse::<u64>() {
-                Ok(n) => Ok(Options {
-                    expects: Expects::Option,
-                    moves: Some(n),
-                    ..self
-                }),
-                Err(_) => Err(Usage::Wrong("--moves takes a number")),
-            },
-            Expects::Words => match word.as_str().parse::<usize>() {
-                Ok(n) => Ok(Options {
-                    expects: Expects::Option,
-                    words: Some(n),
-                    ..self
-                }),
-                Err(_) => Err(Usage::Wrong("--words takes a number")),
-            },
-            Expects::Text => self.from(Source::Text(word)),
-        }
+/// Takes a text, if it is the first.
+fn put(source: &mut Option<Source>, more: Source) -> Result<(), Mistake> {
+    if source.is_some() {
+        return Err(Mistake::TwoTexts);
     }
+    *source = Some(more);
+    Ok(())
+}
 
-    /// All words are there: where the text comes from.
-    pub fn done(self) -> Result<Self, Usage> {
-        match self.expects {
-            Expects::Program | Expects::Option => {}
-            Expects::Moves => return Err(Usage::Wrong("--moves takes a number")),
-            Expects::Words => return Err(Usage::Wrong("--words takes a number")),
-            Expects::Text => return Err(Usage::Wrong("-c takes a text")),
-        }
-        if self.source.is_none() {
-            return Err(Usage::Wrong("no text"));
-        }
-        Ok(self)
-    }
+/// The number that a word is.
+fn number<N: FromStr<Err: Drop>>(word: Option<String>) -> Option<N> {
+    word?.as_str().parse().ok()
 }

@@ -1,14 +1,19 @@
 -- Runs of bytes, and what bare words are.
-use Rattle.std.proofs.Common.{◌≡◌, ℕ, suc, ◌+◌, ◌<◌, ◌≤◌, Bool, true, false, not, ◌&&◌, ◌||◌, T, eqb, leb, ◌⊎◌, List, [], ◌∷◌, ◌++◌, length, get_or, take, drop, Decides, sym, refl, ap, ◌∙◌, subst, inl, inr, arith, le→leb, leb→le, rules}
+use Rattle.std.proofs.Common.{◌≡◌, ℕ, suc, ◌+◌, ◌<◌, ◌≤◌, Bool, true, false, not, ◌&&◌, ◌||◌, ◌==◌, T, cond, eqb, ltb, leb, List, [], ◌∷◌, ◌++◌, length, get_or, map, take, drop, unwrap_or, Decides, Some, None, MatchOption, position, sym, refl, ap, ◌∙◌, subst, arith, le→leb, leb→le, ltb→lt, rules}
 use mathlib.Core.Option.{some, none}
-use lib.Dec.{nleb→lt, eqb-zero-suc, eqb-suc-suc}
-use Rattle.std.proofs.lemmas.List.{drop_more, drop_all, append-nil, append_assoc, length-take-le}
+use lib.Dec.{nleb→lt}
+use Rattle.std.specs.declared.option.Option.{Option}
+use Rattle.std.specs.List.{find, list_all, position_or_len, prefix_len, take_while}
+use Rattle.std.proofs.lemmas.List.{append-nil, append_assoc, drop_more, drop-drop, length-drop, length-take-le}
+use Rattle.std.proofs.lemmas.List.Sums.{prefix_len-le-length}
+use Rattle.std.proofs.lemmas.List.Folds.{length-prefix_len}
 use Rattle.std.proofs.lemmas.Slice.Eq.{compares_Decides}
-use Rattle.lexer.specs.declared.Run.TheVariants.{Letters, Prefix}
 use Rattle.syntax.specs.Base.{pick, same, letter, digit, name_bytes, valid_name}
 use Rattle.grammar.specs.Grammar.{split_equals, reserved}
-use Rattle.lexer.specs.Stored.{run_length, ends_run, index_of, keyword_index, bare_code, word_code}
 use Rattle.grammar.proofs.Fit.{by_bool}
+use Rattle.lexer.specs.declared.token.Keyword.{Keyword}
+use Rattle.lexer.specs.Codes.{all_keywords, keyword_code, keyword_name}
+use Rattle.lexer.specs.Stored.{index_of, keyword_index, bare_code}
 use Rattle.lexer.proofs.Lex.{run_of, after}
 
 two_ways : {P : Type 0} (r s : Bool) → Decides r P → Decides s P → r ≡ s
@@ -20,22 +25,17 @@ two_ways false false h k = refl
 pub decides_same : (xs ys : List ℕ) (r : Bool) → Decides r (xs ≡ ys) → r ≡ same xs ys
 decides_same xs ys r h = two_ways r (same xs ys) h (compares_Decides same (search rules) xs ys)
 
-pub front_yes : (f : ℕ → Bool) (xs : List ℕ) (i : ℕ) → i < length xs → f (get_or xs i 0) ≡ false → run_length f (drop i xs) ≡ suc (run_length f (drop (i + 1) xs))
-front_yes f xs i h e = rw (drop_more xs i 0 h, e)
+one_more : (n : ℕ) → 1 + n ≡ suc n
+one_more n = omega arith
 
-pub front_no : (f : ℕ → Bool) (xs : List ℕ) (i : ℕ) → i < length xs → f (get_or xs i 0) ≡ true → run_length f (drop i xs) ≡ 0
-front_no f xs i h e = rw (drop_more xs i 0 h, e)
-
-pub front_end : (f : ℕ → Bool) (xs : List ℕ) (i : ℕ) → length xs ≤ i → run_length f (drop i xs) ≡ 0
-front_end f xs i h = ap (run_length f) (drop_all i xs h)
-
-pub run_is : (f : ℕ → Bool) (xs : List ℕ) → run_of f xs ≡ take (run_length f xs) xs
+-- a run ends before the first byte that passes
+pub run_is : (f : ℕ → Bool) (xs : List ℕ) → run_of f xs ≡ take (position_or_len f xs) xs
 run_is f [] = refl
-run_is f (c ∷ cs) = by_bool (λ b. pick b [] (c ∷ run_of f cs) ≡ take (pick b 0 (suc (run_length f cs))) (c ∷ cs)) (f c) (λ e. refl) (λ e. ap (λ z. c ∷ z) (run_is f cs))
+run_is f (c ∷ cs) = by_bool (λ b. pick b [] (c ∷ run_of f cs) ≡ take (cond (not b) (1 + position_or_len f cs) 0) (c ∷ cs)) (f c) (λ e. refl) (λ e. rw (one_more (position_or_len f cs), run_is f cs))
 
-pub after_is : (f : ℕ → Bool) (xs : List ℕ) → after f xs ≡ drop (run_length f xs) xs
+pub after_is : (f : ℕ → Bool) (xs : List ℕ) → after f xs ≡ drop (position_or_len f xs) xs
 after_is f [] = refl
-after_is f (c ∷ cs) = by_bool (λ b. pick b (c ∷ cs) (after f cs) ≡ drop (pick b 0 (suc (run_length f cs))) (c ∷ cs)) (f c) (λ e. refl) (λ e. after_is f cs)
+after_is f (c ∷ cs) = by_bool (λ b. pick b (c ∷ cs) (after f cs) ≡ drop (cond (not b) (1 + position_or_len f cs) 0) (c ∷ cs)) (f c) (λ e. refl) (λ e. rw (one_more (position_or_len f cs), after_is f cs))
 
 pub leb_no : (m n : ℕ) → n < m → leb m n ≡ false
 leb_no m n h = by_bool (λ b. leb m n ≡ b → b ≡ false) (leb m n) (λ e f. absurd (omega (arith, leb→le m n (subst T (sym e) tt)))) (λ e f. refl) refl
@@ -43,61 +43,120 @@ leb_no m n h = by_bool (λ b. leb m n ≡ b → b ≡ false) (leb m n) (λ e f. 
 pub leb_yes : (m n : ℕ) → m ≤ n → leb m n ≡ true
 leb_yes m n h = by_bool (λ b. T b → b ≡ true) (leb m n) (λ e f. refl) (λ e f. absurd f) (le→leb m n h)
 
-name_front : (cs : List ℕ) → name_bytes cs ≡ eqb (run_length (ends_run Letters) cs) (length cs)
-name_front [] = refl
-name_front (c ∷ cs) = by_bool (λ b. b && name_bytes cs ≡ eqb (pick (not b) 0 (suc (run_length (ends_run Letters) cs))) (suc (length cs))) (letter c || digit c) (λ e. rw (eqb-suc-suc (run_length (ends_run Letters) cs) (length cs)) (name_front cs)) (λ e. rw (eqb-zero-suc (length cs)))
-
-and_true : (b : Bool) → b && true ≡ b
-and_true true = refl
-and_true false = refl
-
-pub var_is : (w : List ℕ) (e : ℕ) → 0 < length w → letter (get_or w 0 0) ≡ true → length w ≤ 32 → e ≡ suc (run_length (ends_run Letters) (drop 1 w)) → eqb e (length w) ≡ valid_name w
-var_is [] e a b h k = absurd (omega arith)
-var_is (c ∷ cs) e a b h k = rw (k, b, eqb-suc-suc (run_length (ends_run Letters) cs) (length cs), leb_yes (length cs) 31 (omega arith), name_front cs, and_true (eqb (run_length (ends_run Letters) cs) (length cs)))
-
-pub var_long : (w : List ℕ) → 32 < length w → false ≡ valid_name w
-var_long [] h = refl
-var_long (c ∷ cs) h = rw (leb_no (length cs) 31 (omega arith)) (no2 (letter c) (name_bytes cs))
-  where
-    no2 : (a b : Bool) → false ≡ a && (b && false)
-    no2 true true = refl
-    no2 true false = refl
-    no2 false b = refl
-
-pub cut_some : (xs acc : List ℕ) → run_length (ends_run Prefix) xs < length xs → split_equals xs acc ≡ some (record { before = acc ++ take (run_length (ends_run Prefix) xs) xs; behind = drop (suc (run_length (ends_run Prefix) xs)) xs })
-cut_some [] acc h = absurd (omega arith)
-cut_some (c ∷ cs) acc h = by_bool (λ b. pick b 0 (suc (run_length (ends_run Prefix) cs)) < suc (length cs) → pick b (some (record { before = acc; behind = cs })) (split_equals cs (acc ++ (c ∷ []))) ≡ some (record { before = acc ++ take (pick b 0 (suc (run_length (ends_run Prefix) cs))) (c ∷ cs); behind = drop (suc (pick b 0 (suc (run_length (ends_run Prefix) cs)))) (c ∷ cs) })) (eqb c 61) (λ e k. rw (append-nil acc)) (λ e k. cut_some cs (acc ++ (c ∷ [])) (omega arith) ∙ rw (append_assoc acc (c ∷ []) (take (run_length (ends_run Prefix) cs) cs))) h
-
-pub cut_none : (xs acc : List ℕ) → length xs ≤ run_length (ends_run Prefix) xs → split_equals xs acc ≡ none
-cut_none [] acc h = refl
-cut_none (c ∷ cs) acc h = by_bool (λ b. suc (length cs) ≤ pick b 0 (suc (run_length (ends_run Prefix) cs)) → pick b (some (record { before = acc; behind = cs })) (split_equals cs (acc ++ (c ∷ []))) ≡ none) (eqb c 61) (λ e k. absurd (omega arith)) (λ e k. cut_none cs (acc ++ (c ∷ [])) (omega arith)) h
-
-pub key_code : (b : List ℕ) → keyword_index b < 16 → 16 + keyword_index b ≡ bare_code b
-unfolding bare_code
-key_code b h = rw (leb_no 16 (keyword_index b) h)
-
-pub bare_set : (b : List ℕ) (e : ℕ) → 16 ≤ keyword_index b → e ≡ run_length (ends_run Prefix) b → e < length b → valid_name (take e b) ≡ true → 64 + e ≡ bare_code b
-unfolding bare_code
-bare_set b e h k l v = rw (leb_yes 16 (keyword_index b) h, cut_some b [] (omega arith), ← k, v, length-take-le e b (omega arith))
-
-not_le : (m n : ℕ) → leb m n ≡ false → n < m
+pub not_le : (m n : ℕ) → leb m n ≡ false → n < m
 not_le m n e = nleb→lt m n (subst (λ b. T (not b)) (sym e) tt)
 
-pub bare_else_1 : (b : List ℕ) (e : ℕ) → 16 ≤ keyword_index b → e ≡ run_length (ends_run Prefix) b → length b ≤ e → pick (valid_name b) 46 0 ≡ word_code (keyword_index b) b
-bare_else_1 b e h k l = rw (leb_yes 16 (keyword_index b) h, cut_none b [] (omega arith))
+pub name_bytes_is : (cs : List ℕ) → name_bytes cs ≡ list_all (λ c. letter c || digit c) cs
+name_bytes_is [] = refl
+name_bytes_is (c ∷ cs) = ap (λ b. (letter c || digit c) && b) (name_bytes_is cs)
 
-pub bare_else_2 : (b : List ℕ) (e : ℕ) → 16 ≤ keyword_index b → e ≡ run_length (ends_run Prefix) b → e < length b → valid_name (take e b) ≡ false → pick (valid_name b) 46 0 ≡ word_code (keyword_index b) b
-bare_else_2 b e h k l v = rw (leb_yes 16 (keyword_index b) h, cut_some b [] (omega arith), ← k, v)
+-- where a byte is found, and what it means that there is none
+ltb_yes : (m n : ℕ) → ltb m n ≡ true → m < n
+ltb_yes m n e = ltb→lt m n (subst T (sym e) tt)
 
-pub bare_else : (b : List ℕ) (e : ℕ) → 16 ≤ keyword_index b → e ≡ run_length (ends_run Prefix) b → (length b ≤ e) ⊎ (valid_name (take e b) ≡ false) → pick (valid_name b) 46 0 ≡ bare_code b
-unfolding bare_code
-bare_else b e h k (inl l) = rw (leb_yes 16 (keyword_index b) h, cut_none b [] (omega arith))
-bare_else b e h k (inr v) = by_bool (λ x. leb (length b) e ≡ x → pick (valid_name b) 46 0 ≡ word_code (keyword_index b) b) (leb (length b) e) (λ x y. bare_else_1 b e h k (leb→le _ _ (subst T (sym x) tt))) (λ x y. bare_else_2 b e h k (not_le (length b) e x) v) refl
+pub found : (f : ℕ → Bool) (xs : List ℕ) (n : ℕ) → Some n ≡ position f xs → (n ≡ position_or_len f xs) × (n < length xs)
+found f xs n e = by_bool (λ b. ltb (position_or_len f xs) (length xs) ≡ b → Some n ≡ cond b (Some (position_or_len f xs)) None → (n ≡ position_or_len f xs) × (n < length xs)) (ltb (position_or_len f xs) (length xs)) (λ b x y. search rules) (λ b x y. search rules) refl e
 
-pub key_is : (b : List ℕ) → keyword_index b ≡ index_of b reserved
-unfolding keyword_index
-key_is b = refl
+pub missing : (f : ℕ → Bool) (xs : List ℕ) → None ≡ position f xs → length xs ≤ position_or_len f xs
+missing f xs e = by_bool (λ b. ltb (position_or_len f xs) (length xs) ≡ b → None ≡ cond b (Some (position_or_len f xs)) None → length xs ≤ position_or_len f xs) (ltb (position_or_len f xs) (length xs)) (λ b x y. search rules) (λ b x y. search rules) refl e
 
-pub word_of : (b : List ℕ) → word_code (keyword_index b) b ≡ bare_code b
-unfolding bare_code
-word_of b = refl
+-- what stands before an =
+cut_some : (xs acc : List ℕ) → position_or_len (λ c. c == 61) xs < length xs → split_equals xs acc ≡ some (record { before = acc ++ take (position_or_len (λ c. c == 61) xs) xs; behind = drop (suc (position_or_len (λ c. c == 61) xs)) xs })
+cut_some [] acc h = absurd (omega arith)
+cut_some (c ∷ cs) acc h = by_bool (λ b. cond (not b) (1 + position_or_len (λ c. c == 61) cs) 0 < suc (length cs) → pick b (some (record { before = acc; behind = cs })) (split_equals cs (acc ++ (c ∷ []))) ≡ some (record { before = acc ++ take (cond (not b) (1 + position_or_len (λ c. c == 61) cs) 0) (c ∷ cs); behind = drop (suc (cond (not b) (1 + position_or_len (λ c. c == 61) cs) 0)) (c ∷ cs) })) (eqb c 61) (λ e k. rw (append-nil acc)) (λ e k. cut_some cs (acc ++ (c ∷ [])) (omega arith) ∙ rw (one_more (position_or_len (λ c. c == 61) cs), append_assoc acc (c ∷ []) (take (position_or_len (λ c. c == 61) cs) cs))) h
+
+cut_none : (xs acc : List ℕ) → length xs ≤ position_or_len (λ c. c == 61) xs → split_equals xs acc ≡ none
+cut_none [] acc h = refl
+cut_none (c ∷ cs) acc h = by_bool (λ b. suc (length cs) ≤ cond (not b) (1 + position_or_len (λ c. c == 61) cs) 0 → pick b (some (record { before = acc; behind = cs })) (split_equals cs (acc ++ (c ∷ []))) ≡ none) (eqb c 61) (λ e k. absurd (omega arith)) (λ e k. cut_none cs (acc ++ (c ∷ [])) (omega arith)) h
+
+and_right : (a b : Bool) → a && b ≡ true → b ≡ true
+and_right true b e = e
+and_right false b e = absurd (subst (λ x. T (not x)) e tt)
+
+pub name_short : (b : List ℕ) → valid_name b ≡ true → length b ≤ 32
+name_short [] e = omega arith
+name_short (c ∷ cs) e = omega (arith, leb→le (length cs) 31 (subst T (sym (and_right (name_bytes cs) _ (and_right (letter c) _ e))) tt))
+
+-- codes that count up from n
+abbrev Counts : List Keyword → ℕ → Type 0
+Counts [] n = Unit {0}
+Counts (k ∷ ks) n = (keyword_code k ≡ n) × Counts ks (suc n)
+
+abbrev At : List ℕ → List Keyword → ℕ → Option Keyword → Type 0
+At b ks n o = MatchOption o (index_of b (map keyword_name ks) ≡ length ks) (λ k. (keyword_code k ≡ n + index_of b (map keyword_name ks)) × (index_of b (map keyword_name ks) < length ks))
+
+-- where a keyword stands among keywords whose codes count up says its code
+place : (b : List ℕ) (ks : List Keyword) (n : ℕ) → Counts ks n → At b ks n (find (λ k. same b (keyword_name k)) ks)
+place b [] n h = refl
+place b (k ∷ ks) n h = by_bool (λ s. MatchOption (cond s (Some k) (find (λ x. same b (keyword_name x)) ks)) (pick s 0 (suc (index_of b (map keyword_name ks))) ≡ suc (length ks)) (λ x. (keyword_code x ≡ n + pick s 0 (suc (index_of b (map keyword_name ks)))) × (pick s 0 (suc (index_of b (map keyword_name ks))) < suc (length ks)))) (same b (keyword_name k)) (λ e. (omega (arith, h.0), omega arith)) (λ e. behind_one (find (λ x. same b (keyword_name x)) ks) (place b ks (suc n) h.1))
+  where
+    behind_one : (o : Option Keyword) → At b ks (suc n) o → MatchOption o (suc (index_of b (map keyword_name ks)) ≡ suc (length ks)) (λ x. (keyword_code x ≡ n + suc (index_of b (map keyword_name ks))) × (suc (index_of b (map keyword_name ks)) < suc (length ks)))
+    behind_one None p = ap suc p
+    behind_one (Some x) p = (omega (arith, p.0), omega (arith, p.1))
+
+-- what a bare word is: a keyword, an assignment, a valid name or any other word
+module _ (b : List ℕ) where
+  pub key_code : keyword_index b < 16 → 16 + keyword_index b ≡ bare_code b
+  unfolding bare_code
+  key_code h = rw (leb_no 16 (keyword_index b) h)
+
+  pub keyword_is : (k : Keyword) → Some k ≡ find (λ k. same b (keyword_name k)) all_keywords → keyword_code k ≡ bare_code b
+  unfolding keyword_index
+  keyword_is k e = let q : At b all_keywords 16 (Some k) = subst (At b all_keywords 16) (sym e) (place b all_keywords 16 (search rules)) in q.0 ∙ key_code q.1
+
+  pub no_keyword : None ≡ find (λ k. same b (keyword_name k)) all_keywords → 16 ≤ keyword_index b
+  unfolding keyword_index
+  no_keyword e = let q : At b all_keywords 16 None = subst (At b all_keywords 16) (sym e) (place b all_keywords 16 (search rules)) in omega (arith, q)
+
+  pub assignment_is : (n : ℕ) → 16 ≤ keyword_index b → Some n ≡ position (λ c. c == 61) b → valid_name (take n b) ≡ true → 64 + n ≡ bare_code b
+  unfolding bare_code
+  assignment_is n h k v = let q = found (λ c. c == 61) b n k in rw (leb_yes 16 (keyword_index b) h, cut_some b [] (omega arith), ← q.0, v, length-take-le n b (omega arith))
+
+  pub name_before : (n : ℕ) → Some n ≡ position (λ c. c == 61) b → valid_name (take n b) ≡ true → n ≤ 32
+  name_before n k v = omega (arith, name_short (take n b) v, length-take-le n b (omega (arith, (found (λ c. c == 61) b n k).1)))
+
+  pub plain_is : (n : ℕ) → 16 ≤ keyword_index b → Some n ≡ position (λ c. c == 61) b → valid_name (take n b) ≡ false → pick (valid_name b) 46 0 ≡ bare_code b
+  unfolding bare_code
+  plain_is n h k v = let q = found (λ c. c == 61) b n k in rw (leb_yes 16 (keyword_index b) h, cut_some b [] (omega arith), ← q.0, v)
+
+  pub plain_without : 16 ≤ keyword_index b → None ≡ position (λ c. c == 61) b → pick (valid_name b) 46 0 ≡ bare_code b
+  unfolding bare_code
+  plain_without h k = rw (leb_yes 16 (keyword_index b) h, cut_none b [] (missing (λ c. c == 61) b k))
+
+pub first_or_end : (f : ℕ → Bool) (xs : List ℕ) → unwrap_or (position f xs) (length xs) ≡ position_or_len f xs
+first_or_end f xs = by_bool (λ b. ltb (position_or_len f xs) (length xs) ≡ b → unwrap_or (cond b (Some (position_or_len f xs)) None) (length xs) ≡ position_or_len f xs) (ltb (position_or_len f xs) (length xs)) (λ b x. refl) (λ b x. omega (arith, prefix_len-le-length (λ c. not (f c)) xs, not_ltb (position_or_len f xs) (length xs) x)) refl
+  where
+    not_ltb : (m n : ℕ) → ltb m n ≡ false → n ≤ m
+    not_ltb m n e = search rules
+
+-- a run of bytes from i on whose first byte is one of it
+module _ (f : ℕ → Bool) (t : List ℕ) (i n : ℕ) (h : i < length t) (e : f (get_or t i 0) ≡ false) (k : n ≡ position_or_len f (drop i t)) where
+  pub run_bytes : take n (drop i t) ≡ get_or t i 0 ∷ run_of f (drop (i + 1) t)
+  run_bytes = ap (λ m. take m (drop i t)) k ∙ (sym (run_is f (drop i t)) ∙ rw (drop_more t i 0 h, e))
+
+  pub run_rest : after f (drop (i + 1) t) ≡ drop (i + n) t
+  run_rest = rw (← e2) (after_is f (drop i t) ∙ (drop-drop (position_or_len f (drop i t)) i t ∙ ap (λ m. drop (i + m) t) (sym k)))
+    where
+      e2 : after f (drop i t) ≡ after f (drop (i + 1) t)
+      e2 = rw (drop_more t i 0 h, e)
+
+  pub run_some : 0 < n
+  run_some = rw (k, drop_more t i 0 h, e) (omega arith)
+
+  pub run_within : i + n ≤ length t
+  run_within = omega (arith, k, prefix_len-le-length (λ c. not (f c)) (drop i t), length-drop i t)
+
+-- the length of what a run takes
+pub run_len : (f : ℕ → Bool) (xs : List ℕ) (n : ℕ) → n ≡ length (take_while (λ c. not (f c)) xs) → n ≡ position_or_len f xs
+run_len f xs n e = e ∙ length-prefix_len (λ c. not (f c)) xs
+
+prefix_same : (p q : ℕ → Bool) → ((c : ℕ) → p c ≡ q c) → (xs : List ℕ) → prefix_len p xs ≡ prefix_len q xs
+prefix_same p q h [] = refl
+prefix_same p q h (c ∷ cs) = rw (h c, prefix_same p q h cs)
+
+not_not : (b : Bool) → b ≡ not (not b)
+not_not true = refl
+not_not false = refl
+
+pub kept_len : (p : ℕ → Bool) (xs : List ℕ) (n : ℕ) → n ≡ length (take_while p xs) → n ≡ position_or_len (λ c. not (p c)) xs
+kept_len p xs n e = e ∙ (length-prefix_len p xs ∙ prefix_same p (λ c. not (not (p c))) (λ c. not_not (p c)) xs)

@@ -1,2 +1,5 @@
--- Tokens kept as words.
+-- Tokens, as values and kept as words.
+pub mod Codes
 pub mod Stored
+pub mod Cuts
+pub mod Written

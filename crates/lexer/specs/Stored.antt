@@ -1,13 +1,9 @@
 -- Tokens as words: what a token is, as one number, and where its bytes stand in the text.
-use Rattle.std.specs.Prelude.{◌≡◌, ℕ, zero, suc, ◌+◌, ◌*◌, ◌<◌, ◌≤◌, Bool, true, false, not, ◌||◌, ◌⊎◌, List, [], ◌∷◌, length, take, drop, codes, ◌==◌, nat_le, slice_index, slice_index_or}
+use Rattle.std.specs.Prelude.{◌≡◌, ℕ, zero, suc, ◌+◌, ◌*◌, ◌<◌, ◌≤◌, Bool, true, false, List, [], ◌∷◌, length, take, drop, codes, nat_le, slice_index, slice_index_or}
 use Rattle.std.proofs.Math.Option.{Option, some, none}
-use Rattle.syntax.specs.Base.{pick, Name, same, letter, digit, valid_name}
-use Rattle.grammar.specs.Tokens.{Token, token, nothing, Lexer, lexer, ends_word, top_of, rest_of, tokens, start}
+use Rattle.syntax.specs.Base.{pick, Name, same, valid_name}
+use Rattle.grammar.specs.Tokens.{Token, token, tokens, start}
 use Rattle.grammar.specs.Grammar.{reserved, split_equals, Split}
-use Rattle.lexer.specs.declared.Run.{Run}
-use Rattle.lexer.specs.declared.Run.TheVariants.{Bare, Text, Letters, Comment, Quote, Prefix}
-use Rattle.lexer.specs.declared.Bracket.{Bracket}
-use Rattle.lexer.specs.declared.Bracket.TheVariants.{Neither, Opens, Closes}
 
 -- where a name stands in a list of names; the list's length if it is not there
 abbrev pub index_of : Name → List Name → ℕ
@@ -65,51 +61,16 @@ token_code p = token_code_of p.joined p.kind p.bytes
 abbrev pub Spelled : List ℕ → ℕ → ℕ → Token → Type 0
 Spelled t s n p = p.kind ≤ 3 → take n (drop s t) ≡ p.bytes
 
+-- it starts within the text, and its bytes lie there
+abbrev pub Within : List ℕ → ℕ → ℕ → Token → Type 0
+Within t s n p = (s ≤ length t) × (p.kind ≤ 3 → s + n ≤ length t)
+
 abbrev pub TokenAt : List ℕ → Token → List ℕ → ℕ → Type 0
-TokenAt t p m a = (slice_index m a ≡ token_code p) × Spelled t (slice_index m (a + 1)) (slice_index m (a + 2)) p
+TokenAt t p m a = (slice_index m a ≡ token_code p) × Spelled t (slice_index m (a + 1)) (slice_index m (a + 2)) p × Within t (slice_index m (a + 1)) (slice_index m (a + 2)) p
 
 -- the token i stands at 3 * i + 3
 abbrev pub TokensAt : List ℕ → List Token → List ℕ → Type 0
 TokensAt t ps m = (k : ℕ) → k < length ps → TokenAt t (slice_index_or ps k (token false 0 [])) m (3 * k + 3)
-
--- the lexer where no token has begun
-abbrev pub resting : Bool → List Bool → Bool → Lexer
-resting d o g = lexer d o g nothing
-
--- the code of an opening bracket says whether it is a $( and whether that stands in double quotes
-abbrev pub opens_substitution : ℕ → Bool
-opens_substitution k = not (k == 40)
-
-abbrev pub opens_in_quotes : ℕ → Bool
-opens_in_quotes k = k == 6 || k == 14
-
--- the lexer behind a token with the code k
-abbrev pub moved : Bracket → ℕ → Bool → Bool → List Bool → Lexer
-moved Neither k d g o = resting d o g
-moved Opens k d g o = resting false (opens_substitution k ∷ opens_in_quotes k ∷ o) false
-moved Closes k d g o = resting (top_of (rest_of o)) (rest_of (rest_of o)) (top_of o)
-
--- a step of the lexer completes no token, or one with the code k, whose bytes are n from s on
-pub data Stepped (t : List ℕ) (xs ys : List Token) (found : Bool) (b : Bracket) (k s n : ℕ) : Type 0 where
-  silent : found ≡ false → b ≡ Neither → xs ≡ ys → Stepped t xs ys found b k s n
-  cut : found ≡ true → (p : Token) → (b ≡ Neither) ⊎ (3 < p.kind) → k ≡ token_code p → Spelled t s n p → xs ≡ p ∷ ys → Stepped t xs ys found b k s n
-
-abbrev pub Cuts : List ℕ → ℕ → Bool → Bool → ℕ → Bool → Bool → Bool → Bracket → ℕ → ℕ → ℕ → Type 0
-Cuts t at d g at' d' g' found b k s n = (o : List Bool) → Stepped t (tokens (resting d o g) (drop at t)) (tokens (moved b k d' g' o) (drop at' t)) found b k s n
-
--- the bytes that end a run
-abbrev pub ends_run : Run → ℕ → Bool
-ends_run Bare c = ends_word c
-ends_run Text c = c == 34 || c == 36
-ends_run Letters c = not (letter c || digit c)
-ends_run Comment c = c == 10
-ends_run Quote c = c == 39
-ends_run Prefix c = c == 61
-
--- how many bytes come before the first that ends the run
-abbrev pub run_length : (ℕ → Bool) → List ℕ → ℕ
-run_length f [] = 0
-run_length f (c ∷ cs) = pick (f c) 0 (suc (run_length f cs))
 
 -- all tokens of a text, and those from one on
 unfoldable pub tokens_of : List ℕ → List Token

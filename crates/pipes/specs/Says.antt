@@ -1,6 +1,6 @@
 -- What `run` promises: text t, the host's input i, how many moves are allowed, w words lent, the bytes lent for the paper
 -- before (o) and after (o').
-use Rattle.std.specs.Prelude.{◌≡◌, ◌↔◌, false, List, [], ◌∷◌, ◌++◌, ℕ, ◌+◌, ◌*◌, ◌<◌, ◌≤◌, length, take, drop}
+use Rattle.std.specs.Prelude.{◌≡◌, ◌↔◌, false, List, [], ◌∷◌, ◌++◌, ℕ, ◌+◌, ◌*◌, ◌<◌, ◌≤◌, length}
 use Rattle.std.proofs.Math.Option.{some}
 use Rattle.pipes.specs.declared.Ran.{Ran}
 use Rattle.pipes.specs.declared.Ran.TheVariants.{Ended, Still, Spent, NoRoom, OutFull, NotYet, NoText, Few}
@@ -8,19 +8,27 @@ use Rattle.syntax.specs.Tree.{CommandList}
 use Rattle.syntax.specs.Stage.{stage}
 use Rattle.grammar.specs.Grammar.{Parses}
 use Rattle.grammar.specs.Statements.{Unambiguous, ParserAgrees}
+use Rattle.words.specs.Paper.{OnPaper}
 use Rattle.meaning.specs.System.{System, exit_status}
 use Rattle.meaning.specs.Step.{any_enabled, moves, initial}
 use Rattle.meaning.specs.Space.{needs}
 use Rattle.meaning.specs.Statements.{Isolated, Fair, Confluent, CoreFair}
 use Rattle.meaning.specs.Queue.{QueueFair}
 
+-- how many bytes stand on the paper
+abbrev pub paper_bytes : Ran → ℕ
+paper_bytes (Ended n k) = n
+paper_bytes (Still n) = n
+paper_bytes (Spent n) = n
+paper_bytes (NoRoom n) = n
+paper_bytes (OutFull n) = n
+paper_bytes (NotYet n) = 0
+paper_bytes NoText = 0
+paper_bytes Few = 0
+
 -- the texts that are run: as yet none
 abbrev pub Landed : CommandList → Type 0
 Landed l = ⊥
-
--- p are the first n bytes of the paper, and the rest is as it was
-abbrev pub OnPaper : List ℕ → List ℕ → ℕ → List ℕ → Type 0
-OnPaper o o' n p = (length p ≡ n) × (take n o' ≡ p) × (drop n o' ≡ drop n o)
 
 -- by a fair order of moves the commands of the text come to s
 abbrev pub Reaches : List ℕ → List ℕ → CommandList → List ℕ → System → Type 0

@@ -8,7 +8,7 @@ use Rattle.grammar.specs.Parser.{level, parse_negatable, parse_and_or_go, parse_
 use Rattle.lexer.specs.Stored.{tokens_of, tokens_from, code_at, Has}
 use Rattle.grammar.proofs.Fit.{by_bool}
 use Rattle.lexer.proofs.Next.{eqb_yes}
-use Rattle.reader.specs.Layout.{flag, AndOrAt}
+use Rattle.code.specs.Layout.{flag, AndOrAt}
 use Rattle.reader.specs.Reading.{GotNegatable, GotAndOr}
 use Rattle.reader.proofs.Basics.{max_assoc}
 use Rattle.reader.proofs.Frame.{pipeline_frame, and_or_frame}
@@ -77,8 +77,8 @@ module _ (d : ℕ) {t : List ℕ} {n i0 : ℕ} {m w0 w : List ℕ} (hs : Has t n
     pub and_or_fail : parse_negatable (level d) (tokens_from t (i + 1)) ≡ none → parse_and_or (level d) (tokens_from t i0) ≡ none
     and_or_fail e = h.says ∙ failed h.fuel h.enough e
 
-    pub and_or_step : {w1 : List ℕ} {j free1 s1 : ℕ} → GotNegatable t n (i + 1) d w w1 free j free1 s s1 → Joining t n i0 d w0 (set (set w1 free node) (free + 1) (43 - k)) top j free1 free s0 s1
-    and_or_step {w1} {j} {free1} {s1} g =
+    pub and_or_step : (y : ℕ) → y ≡ 43 - k → {w1 : List ℕ} {j free1 s1 : ℕ} → GotNegatable t n (i + 1) d w w1 free j free1 s s1 → Joining t n i0 d w0 (set (set w1 free node) (free + 1) y) top j free1 free s0 s1
+    and_or_step y ye {w1} {j} {free1} {s1} g =
         let lo = h.low in
         let hi = h.high in
         let st = h.starts in
@@ -87,9 +87,9 @@ module _ (d : ℕ) {t : List ℕ} {n i0 : ℕ} {m w0 w : List ℕ} (hs : Has t n
         let gw = g.within in
         let gg = g.goes in
         let v1 = set w1 free node in
-        let far : (x : ℕ) → x ≢ free → x ≢ free + 1 → get_or (set v1 (free + 1) (43 - k)) x 0 ≡ get_or w1 x 0 = λ x u v. get_or-set_other v1 (free + 1) x (43 - k) 0 v ∙ get_or-set_other w1 free x node 0 u in
+        let far : (x : ℕ) → x ≢ free → x ≢ free + 1 → get_or (set v1 (free + 1) y) x 0 ≡ get_or w1 x 0 = λ x u v. get_or-set_other v1 (free + 1) x y 0 v ∙ get_or-set_other w1 free x node 0 u in
         let u = more h.fuel h.enough g in
-        record { tree = joined h.tree (eqb k 42) g.tree.0 g.tree.1; fuel = u.0; enough = u.1; says = h.says ∙ u.2; coded = (node, omega arith, gh, get_or-set_other v1 (free + 1) free (43 - k) 0 (omega arith) ∙ get_or-set_same w1 free node 0 (omega arith), omega arith, get_or-set_same v1 (free + 1) (43 - k) 0 (omega (arith, length-set w1 free node)) ∙ flag_is k a b, far (free + 2) (omega arith) (omega arith) ∙ g.coded.1, and_or_frame t w (set v1 (free + 1) (43 - k)) h.tree top free node (λ x y z. far x (omega arith) (omega arith) ∙ g.kept x z (omega arith)) h.coded, pipeline_frame t w1 (set v1 (free + 1) (43 - k)) g.tree.1 (free + 4) free1 (free + 3) (λ x y z. far x (omega arith) (omega arith)) (far (free + 3) (omega arith) (omega arith)) g.coded.2); staged = rw (g.staged, h.staged) (max_assoc s0 (and_or_stage h.tree) (pipeline_stage g.tree.1)); kept = λ x y. far x (omega arith) (omega arith) ∙ (g.kept x (omega arith) (omega arith) ∙ h.kept x y); goes = omega (arith, h.goes); within = gw; starts = st; low = omega arith; high = gh; fits = omega (arith, length-set v1 (free + 1) (43 - k), length-set w1 free node); room = omega (arith, h.room, g.room) }
+        record { tree = joined h.tree (eqb k 42) g.tree.0 g.tree.1; fuel = u.0; enough = u.1; says = h.says ∙ u.2; coded = (node, omega arith, gh, get_or-set_other v1 (free + 1) free y 0 (omega arith) ∙ get_or-set_same w1 free node 0 (omega arith), omega arith, get_or-set_same v1 (free + 1) y 0 (omega (arith, length-set w1 free node)) ∙ (ye ∙ flag_is k a b), far (free + 2) (omega arith) (omega arith) ∙ g.coded.1, and_or_frame t w (set v1 (free + 1) y) h.tree top free node (λ x y z. far x (omega arith) (omega arith) ∙ g.kept x z (omega arith)) h.coded, pipeline_frame t w1 (set v1 (free + 1) y) g.tree.1 (free + 4) free1 (free + 3) (λ x y z. far x (omega arith) (omega arith)) (far (free + 3) (omega arith) (omega arith)) g.coded.2); staged = rw (g.staged, h.staged) (max_assoc s0 (and_or_stage h.tree) (pipeline_stage g.tree.1)); kept = λ x y. far x (omega arith) (omega arith) ∙ (g.kept x (omega arith) (omega arith) ∙ h.kept x y); goes = omega (arith, h.goes); within = gw; starts = st; low = omega arith; high = gh; fits = omega (arith, length-set v1 (free + 1) y, length-set w1 free node); room = omega (arith, h.room, g.room) }
       where
         more : (f : ℕ) → length (tokens_from t i) < f → (g : GotNegatable t n (i + 1) d w w1 free j free1 s s1) → (q : ℕ) × (length (tokens_from t j) < q) × (parse_and_or_go (level d) f h.tree (tokens_from t i) ≡ parse_and_or_go (level d) q (joined h.tree (eqb k 42) g.tree.0 g.tree.1) (tokens_from t j))
         more zero x g = absurd (omega arith)

@@ -5,7 +5,7 @@ use Rattle.syntax.specs.Tree.{Arms, no_arms, arm}
 use Rattle.syntax.specs.Stage.{arms_stage}
 use Rattle.grammar.specs.Parser.{level, parse_word, parse_arms_go, parse_arms}
 use Rattle.lexer.specs.Stored.{tokens_from, code_at, Has}
-use Rattle.reader.specs.Layout.{ArmsAt}
+use Rattle.code.specs.Layout.{ArmsAt}
 use Rattle.reader.specs.Reading.{GotWord, GotList, GotArms}
 use Rattle.reader.proofs.Basics.{max_assoc}
 use Rattle.reader.proofs.Frame.{parts_frame, list_frame}

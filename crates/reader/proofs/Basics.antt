@@ -1,5 +1,6 @@
 -- Small laws that several files use.
 use Rattle.std.proofs.Common.{◌≡◌, ℕ, zero, suc, ◌<◌, ◌≤◌, max, Bool, true, false, T, ◌⊎◌, sym, subst, inl, inr, arith}
+use Rattle.std.specs.Prelude.{Result, Ok, Err, OnErr}
 use mathlib.Core.Option.{Option, some, none}
 
 is_some : {A : Type 0} → Option A → Bool
@@ -26,3 +27,11 @@ lt_or (suc k) (suc n) = more (lt_or k n)
 -- the highest stage so far, from part to part
 pub max_assoc : (a b c : ℕ) → max (max a b) c ≡ max a (max b c)
 max_assoc a b c = omega arith
+
+-- what holds in any case holds on an error
+pub on_err : {A E P : Type 0} (r : Result A E) → P → OnErr r P
+on_err (Ok a) p = tt
+on_err (Err e) p = p
+
+pub not_true : {P : Type 0} → (P → false ≡ true) → P → ⊥
+not_true f p = true_false (sym (f p))

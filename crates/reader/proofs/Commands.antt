@@ -13,7 +13,9 @@ use Rattle.syntax.specs.Base.{pick}
 use Rattle.reader.specs.Reading.{GotCommand, joins, bare, lookahead_by, nth_lookahead}
 use Rattle.reader.specs.Aheads.{la_of}
 use Rattle.reader.specs.declared.ahead.Ahead.{Ahead}
-use Rattle.reader.specs.declared.ahead.Ahead.TheVariants.{End, Odd, Part, Not, Keyword, Paren, Pipe, And, Or, Newline, CloseParen, DoubleSemicolon, If, While, For, Case, Brace, Input, Output, Append, Here, Semicolon, Ampersand}
+use Rattle.reader.specs.declared.ahead.Ahead.TheVariants.{End, Odd, Part, Keyword, Sign}
+use Rattle.lexer.specs.declared.token.Keyword.TheVariants.{When, If, Then, Elif, Else, Fi, While, Do, Done, For, In, Case, Esac, OpenBrace, CloseBrace, Not}
+use Rattle.lexer.specs.declared.token.Sign.TheVariants.{Semicolon, Newline, Ampersand, Pipe, Redirect, OpenParen, CloseParen, And, Or, DoubleSemicolon}
 use Rattle.reader.proofs.Basics.{lt_or}
 use Rattle.reader.proofs.Views.{here, there, sign_in, Bare, b_none, b_name, b_key, b_set, bare_in}
 use Rattle.reader.proofs.Toks.{tok_is}
@@ -133,30 +135,36 @@ part_simple S ps e = rw e
 pub ended_none : {t : List ℕ} {n : ℕ} {m : List ℕ} (S : Deeper) (i : ℕ) → Has t n m → n ≤ i → parse_command S (tokens_from t i) ≡ none
 ended_none S i h l = ap (parse_command S) (there i h l)
 
-pub no_command : (S : Deeper) (ps : List Token) (a : Ahead) → la_of a ≡ lookahead ps → (a ≡ Part → ⊥) → (a ≡ Paren → ⊥) → (a ≡ If → ⊥) → (a ≡ While → ⊥) → (a ≡ For → ⊥) → (a ≡ Case → ⊥) → (a ≡ Brace → ⊥) → parse_command S ps ≡ none
+pub no_command : (S : Deeper) (ps : List Token) (a : Ahead) → la_of a ≡ lookahead ps → (a ≡ Part → ⊥) → (a ≡ Sign OpenParen → ⊥) → (a ≡ Keyword If → ⊥) → (a ≡ Keyword While → ⊥) → (a ≡ Keyword For → ⊥) → (a ≡ Keyword Case → ⊥) → (a ≡ Keyword OpenBrace → ⊥) → parse_command S ps ≡ none
 no_command S ps a e n0 n1 n2 n3 n4 n5 n6 = ap (λ l. parse_command_by S l ps) (sym e) ∙ go a n0 n1 n2 n3 n4 n5 n6
   where
-    go : (a : Ahead) → (a ≡ Part → ⊥) → (a ≡ Paren → ⊥) → (a ≡ If → ⊥) → (a ≡ While → ⊥) → (a ≡ For → ⊥) → (a ≡ Case → ⊥) → (a ≡ Brace → ⊥) → parse_command_by S (la_of a) ps ≡ none
+    go : (a : Ahead) → (a ≡ Part → ⊥) → (a ≡ Sign OpenParen → ⊥) → (a ≡ Keyword If → ⊥) → (a ≡ Keyword While → ⊥) → (a ≡ Keyword For → ⊥) → (a ≡ Keyword Case → ⊥) → (a ≡ Keyword OpenBrace → ⊥) → parse_command_by S (la_of a) ps ≡ none
     go End n0 n1 n2 n3 n4 n5 n6 = refl
     go Odd n0 n1 n2 n3 n4 n5 n6 = refl
     go Part n0 n1 n2 n3 n4 n5 n6 = absurd (n0 refl)
-    go Not n0 n1 n2 n3 n4 n5 n6 = refl
-    go Keyword n0 n1 n2 n3 n4 n5 n6 = refl
-    go Paren n0 n1 n2 n3 n4 n5 n6 = absurd (n1 refl)
-    go Pipe n0 n1 n2 n3 n4 n5 n6 = refl
-    go And n0 n1 n2 n3 n4 n5 n6 = refl
-    go Or n0 n1 n2 n3 n4 n5 n6 = refl
-    go Newline n0 n1 n2 n3 n4 n5 n6 = refl
-    go CloseParen n0 n1 n2 n3 n4 n5 n6 = refl
-    go DoubleSemicolon n0 n1 n2 n3 n4 n5 n6 = refl
-    go If n0 n1 n2 n3 n4 n5 n6 = absurd (n2 refl)
-    go While n0 n1 n2 n3 n4 n5 n6 = absurd (n3 refl)
-    go For n0 n1 n2 n3 n4 n5 n6 = absurd (n4 refl)
-    go Case n0 n1 n2 n3 n4 n5 n6 = absurd (n5 refl)
-    go Brace n0 n1 n2 n3 n4 n5 n6 = absurd (n6 refl)
-    go Input n0 n1 n2 n3 n4 n5 n6 = refl
-    go Output n0 n1 n2 n3 n4 n5 n6 = refl
-    go Append n0 n1 n2 n3 n4 n5 n6 = refl
-    go Here n0 n1 n2 n3 n4 n5 n6 = refl
-    go Semicolon n0 n1 n2 n3 n4 n5 n6 = refl
-    go Ampersand n0 n1 n2 n3 n4 n5 n6 = refl
+    go (Sign Semicolon) n0 n1 n2 n3 n4 n5 n6 = refl
+    go (Sign Newline) n0 n1 n2 n3 n4 n5 n6 = refl
+    go (Sign Ampersand) n0 n1 n2 n3 n4 n5 n6 = refl
+    go (Sign Pipe) n0 n1 n2 n3 n4 n5 n6 = refl
+    go (Sign OpenParen) n0 n1 n2 n3 n4 n5 n6 = absurd (n1 refl)
+    go (Sign CloseParen) n0 n1 n2 n3 n4 n5 n6 = refl
+    go (Sign And) n0 n1 n2 n3 n4 n5 n6 = refl
+    go (Sign Or) n0 n1 n2 n3 n4 n5 n6 = refl
+    go (Sign DoubleSemicolon) n0 n1 n2 n3 n4 n5 n6 = refl
+    go (Sign (Redirect r)) n0 n1 n2 n3 n4 n5 n6 = refl
+    go (Keyword When) n0 n1 n2 n3 n4 n5 n6 = refl
+    go (Keyword If) n0 n1 n2 n3 n4 n5 n6 = absurd (n2 refl)
+    go (Keyword Then) n0 n1 n2 n3 n4 n5 n6 = refl
+    go (Keyword Elif) n0 n1 n2 n3 n4 n5 n6 = refl
+    go (Keyword Else) n0 n1 n2 n3 n4 n5 n6 = refl
+    go (Keyword Fi) n0 n1 n2 n3 n4 n5 n6 = refl
+    go (Keyword While) n0 n1 n2 n3 n4 n5 n6 = absurd (n3 refl)
+    go (Keyword Do) n0 n1 n2 n3 n4 n5 n6 = refl
+    go (Keyword Done) n0 n1 n2 n3 n4 n5 n6 = refl
+    go (Keyword For) n0 n1 n2 n3 n4 n5 n6 = absurd (n4 refl)
+    go (Keyword In) n0 n1 n2 n3 n4 n5 n6 = refl
+    go (Keyword Case) n0 n1 n2 n3 n4 n5 n6 = absurd (n5 refl)
+    go (Keyword Esac) n0 n1 n2 n3 n4 n5 n6 = refl
+    go (Keyword OpenBrace) n0 n1 n2 n3 n4 n5 n6 = absurd (n6 refl)
+    go (Keyword CloseBrace) n0 n1 n2 n3 n4 n5 n6 = refl
+    go (Keyword Not) n0 n1 n2 n3 n4 n5 n6 = refl

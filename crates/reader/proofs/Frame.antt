@@ -1,7 +1,7 @@
 -- Code stays what it is while its words do.
 use Rattle.std.proofs.Common.{◌≡◌, ℕ, ◌+◌, ◌<◌, ◌≤◌, List, get_or, ◌∙◌, arith}
 use Rattle.syntax.specs.Tree.{WordPart, literal, parameter, substitution, Word, no_parts, and_part, Words, no_words, and_word, Assignments, no_assignments, assign, Redirects, no_redirects, redirect, Command, simple, group, subshell, if, while, for, case, function, ElsePart, no_else, else, Arms, no_arms, arm, Pipeline, single, piped, AndOr, first, joined, CommandList, end, next}
-use Rattle.reader.specs.Layout.{BytesAt, PartAt, PartsAt, WordsAt, AssignmentsAt, RedirectsAt, CommandAt, ElseAt, ArmsAt, PipelineAt, AndOrAt, ListAt}
+use Rattle.code.specs.Layout.{BytesAt, PartAt, PartsAt, WordsAt, AssignmentsAt, RedirectsAt, CommandAt, ElseAt, ArmsAt, PipelineAt, AndOrAt, ListAt}
 
 abbrev pub Same : List ℕ → List ℕ → ℕ → ℕ → Type 0
 Same m v lo hi = (k : ℕ) → lo ≤ k → k < hi → get_or v k 0 ≡ get_or m k 0

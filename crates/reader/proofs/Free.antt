@@ -1,8 +1,8 @@
 -- Code between bounds is code.
 use Rattle.std.proofs.Common.{◌≡◌, ℕ, ◌+◌, ◌<◌, ◌≤◌, List, get_or, sym, subst, arith}
 use Rattle.syntax.specs.Tree.{WordPart, literal, parameter, substitution, Word, no_parts, and_part, Words, no_words, and_word, Assignments, no_assignments, assign, Redirects, no_redirects, redirect, Command, simple, group, subshell, if, while, for, case, function, ElsePart, no_else, else, Arms, no_arms, arm, Pipeline, single, piped, AndOr, first, joined, CommandList, end, next}
-use Rattle.reader.specs.Layout.{PartAt, PartsAt, WordsAt, AssignmentsAt, RedirectsAt, CommandAt, ElseAt, ArmsAt, PipelineAt, AndOrAt, ListAt}
-use Rattle.reader.specs.Code.{PartCode, WordCode, WordsCode, AssignmentsCode, RedirectsCode, CommandCode, ElseCode, ArmsCode, PipelineCode, AndOrCode, ListCode}
+use Rattle.code.specs.Layout.{PartAt, PartsAt, WordsAt, AssignmentsAt, RedirectsAt, CommandAt, ElseAt, ArmsAt, PipelineAt, AndOrAt, ListAt}
+use Rattle.code.specs.Code.{PartCode, WordCode, WordsCode, AssignmentsCode, RedirectsCode, CommandCode, ElseCode, ArmsCode, PipelineCode, AndOrCode, ListCode}
 
 module _ (t m : List ℕ) where
   -- the link at p leads to a, and so does whoever goes by the link's value

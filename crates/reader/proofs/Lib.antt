@@ -13,7 +13,6 @@ pub mod Parts
 pub mod Lines
 pub mod Setting
 pub mod SimpleCommands
-pub mod Stages
 pub mod Names
 pub mod Expects
 pub mod Compounds
@@ -23,5 +22,6 @@ pub mod ArmChains
 pub mod Levels
 pub mod Lists
 pub mod Elses
+pub mod Nexts
 pub mod Commands
 pub mod Wholes

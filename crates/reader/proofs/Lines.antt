@@ -4,7 +4,7 @@ use mathlib.Core.Option.{some, none}
 use Rattle.std.proofs.lemmas.List.{get_or-set_same, get_or-set_other}
 use Rattle.syntax.specs.Tree.{Words, no_words, and_word, Redirects, no_redirects, redirect}
 use Rattle.grammar.specs.Parser.{level, parse_word, parse_words_go, parse_words, parse_redirects_go, parse_redirects, no_word, lookahead, redirect_at, after_first}
-use Rattle.reader.specs.Layout.{WordsAt, RedirectsAt}
+use Rattle.code.specs.Layout.{WordsAt, RedirectsAt}
 use Rattle.lexer.specs.Stored.{tokens_from, Has, code_at}
 use Rattle.syntax.specs.Stage.{words_stage, redirects_stage}
 use Rattle.reader.specs.Reading.{ends_words, GotWord, GotWords, GotRedirects}
@@ -19,15 +19,6 @@ module _ (d : ℕ) {t : List ℕ} {n i0 : ℕ} {m w0 w : List ℕ} (hs : Has t n
 
   pub words_end : true ≡ ends_words k → GotWords t n i0 d w0 (set w p 0) top link i free s0 s
   words_end e = finish Words words_stage (parse_words_go (level d)) (WordsAt t) t n i0 w0 top link s0 h no_words (λ m. rw (nw e)) (λ v x. x) refl
-
-  pub words_over : false ≡ ends_words k → n ≤ i → parse_words (level d) (tokens_from t i0) ≡ none
-  words_over e l = absurd (clash (sym e ∙ false_end))
-    where
-      false_end : false ≡ true
-      false_end = e ∙ ap ends_words (ke ∙ ap code_at (there i hs l))
-
-      clash : ends_words k ≡ true → ⊥
-      clash x = absurd (lib.Dec.T_not true (subst (λ b. lib.Dec.T b) (sym (e ∙ x)) tt) tt)
 
   pub words_fail : false ≡ ends_words k → parse_word (level d) (tokens_from t i) ≡ none → parse_words (level d) (tokens_from t i0) ≡ none
   words_fail e f = fail Words words_stage (parse_words_go (level d)) (WordsAt t) t n i0 w0 top link s0 h (λ m. rw (nw e, f))
@@ -45,14 +36,11 @@ module _ (d : ℕ) {t : List ℕ} {n i0 : ℕ} {m w0 w : List ℕ} (hs : Has t n
   pub redirects_end : (k < 36) ⊎ (39 < k) → GotRedirects t n i0 d w0 (set w p 0) top link i free s0 s
   redirects_end e = finish Redirects redirects_stage (parse_redirects_go (level d)) (RedirectsAt t) t n i0 w0 top link s0 h no_redirects (λ m. rw (arrow_no (tokens_from t i) k ke e)) (λ v x. x) refl
 
-  pub redirects_over : k ≤ 39 → n ≤ i → parse_redirects (level d) (tokens_from t i0) ≡ none
-  redirects_over e l = absurd (omega (arith, ke, ap code_at (there i hs l)))
-
   ar : 36 ≤ k → k ≤ 39 → i < n → redirect_at (tokens_from t i) ≡ some (kind_by (k - 36), tokens_from t (i + 1))
   ar a b l = arrow_yes (tokens_from t i) (k - 36) (omega arith) (omega (arith, ke)) ∙ ap (λ ps. some (kind_by (k - 36), after_first ps)) (here i hs l)
 
   pub redirects_fail : 36 ≤ k → k ≤ 39 → i < n → parse_word (level d) (tokens_from t (i + 1)) ≡ none → parse_redirects (level d) (tokens_from t i0) ≡ none
   redirects_fail a b l f = fail Redirects redirects_stage (parse_redirects_go (level d)) (RedirectsAt t) t n i0 w0 top link s0 h (λ m. rw (ar a b l, f))
 
-  pub redirects_step : 36 ≤ k → k ≤ 39 → i < n → free + 2 ≤ length w → {w1 : List ℕ} {j free1 s1 : ℕ} → GotWord t n (i + 1) d (set (set w p free) (free + 1) (k - 36)) w1 (free + 3) (free + 2) j free1 s s1 → Chain Redirects redirects_stage (parse_redirects_go (level d)) (RedirectsAt t) t n i0 w0 w1 top link j free1 free s0 s1
-  redirects_step ka kb l z {w1} {j} {free1} {s1} g = step Redirects redirects_stage (parse_redirects_go (level d)) (RedirectsAt t) t n i0 w0 top link s0 h (λ x. redirect (kind_by (k - 36)) g.tree x) w1 j free1 (λ m. rw (ar ka kb l, g.is)) (omega (arith, g.goes)) g.within (omega (arith, g.above)) g.fits (λ x y. g.kept x (omega arith) (omega arith) ∙ get_or-set_other (set w p free) (free + 1) x (k - 36) 0 (omega arith)) (omega (arith, g.room)) (λ v hi le q l a y. (free, free1, (a, omega arith, omega (arith, h.at_p), g.above, le), q (free + 1) (omega (arith, g.above)) (omega arith) ∙ (g.kept (free + 1) (omega arith) (omega arith) ∙ get_or-set_same (set w p free) (free + 1) (k - 36) 0 (omega (arith, length-set w p free)) ∙ kind_back (k - 36) (omega arith)), parts_frame t w1 v g.tree (free + 3) free1 (free + 2) (λ x u z. q x z (omega arith)) (q (free + 2) (omega (arith, g.above)) (omega arith)) g.coded, y)) s1 (λ l. omega (arith, g.staged))
+  pub redirects_step : 36 ≤ k → k ≤ 39 → i < n → free + 2 ≤ length w → (z1 : ℕ) → z1 ≡ k - 36 → {w1 : List ℕ} {j free1 s1 : ℕ} → GotWord t n (i + 1) d (set (set w p free) (free + 1) z1) w1 (free + 3) (free + 2) j free1 s s1 → Chain Redirects redirects_stage (parse_redirects_go (level d)) (RedirectsAt t) t n i0 w0 w1 top link j free1 free s0 s1
+  redirects_step ka kb l z z1 ze {w1} {j} {free1} {s1} g = step Redirects redirects_stage (parse_redirects_go (level d)) (RedirectsAt t) t n i0 w0 top link s0 h (λ x. redirect (kind_by (k - 36)) g.tree x) w1 j free1 (λ m. rw (ar ka kb l, g.is)) (omega (arith, g.goes)) g.within (omega (arith, g.above)) g.fits (λ x y. g.kept x (omega arith) (omega arith) ∙ get_or-set_other (set w p free) (free + 1) x z1 0 (omega arith)) (omega (arith, g.room)) (λ v hi le q l a y. (free, free1, (a, omega arith, omega (arith, h.at_p), g.above, le), q (free + 1) (omega (arith, g.above)) (omega arith) ∙ (g.kept (free + 1) (omega arith) (omega arith) ∙ get_or-set_same (set w p free) (free + 1) z1 0 (omega (arith, length-set w p free)) ∙ ze ∙ kind_back (k - 36) (omega arith)), parts_frame t w1 v g.tree (free + 3) free1 (free + 2) (λ x u z. q x z (omega arith)) (q (free + 2) (omega (arith, g.above)) (omega arith)) g.coded, y)) s1 (λ l. omega (arith, g.staged))

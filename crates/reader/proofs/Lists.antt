@@ -10,7 +10,7 @@ use Rattle.lexer.specs.Stored.{tokens_from, code_at, Has}
 use Rattle.grammar.proofs.Fit.{by_bool}
 use Rattle.lexer.proofs.Next.{eqb_yes}
 use Rattle.lexer.proofs.Runs.{leb_yes}
-use Rattle.reader.specs.Layout.{flag, ListAt}
+use Rattle.code.specs.Layout.{flag, ListAt}
 use Rattle.reader.specs.Reading.{Made, GotAndOr, GotList}
 use Rattle.reader.proofs.Basics.{max_assoc}
 use Rattle.reader.proofs.Frame.{and_or_frame}
@@ -85,14 +85,14 @@ module _ (d : ℕ) (z : 0 < d) (t : List ℕ) (n i0 : ℕ) (b : Bool) where
           pub list_open : false ≡ leb 32 k && leb k 34 → b ≡ false → (level d).lists b (tokens_from t i0) ≡ none
           list_open x e = failing (λ f. rw (e1, e2, g.is, terminator_no hs j k ke x, e))
 
-          pub list_last : false ≡ leb 32 k && leb k 34 → b ≡ true → GotList t n i0 d b w0 (set (set w1 (free + 1) 0) free 0) top link j f1 s0 s1
-          list_last x e =
+          pub list_last : false ≡ leb 32 k && leb k 34 → b ≡ true → (y : ℕ) → y ≡ 0 → GotList t n i0 d b w0 (set (set w1 (free + 1) y) free 0) top link j f1 s0 s1
+          list_last x e y ye =
               let ga = g.above in
               let gf = g.fits in
-              let v1 = set w1 (free + 1) 0 in
+              let v1 = set w1 (free + 1) y in
               let v2 = set v1 free 0 in
-              let far : (c : ℕ) → c ≢ free → c ≢ free + 1 → get_or v2 c 0 ≡ get_or w1 c 0 = λ c u o. get_or-set_other v1 free c 0 0 u ∙ get_or-set_other w1 (free + 1) c 0 0 o in
-              leveled 4 (rw e (omega arith)) (close CommandList list_stage (parse_list_go (level (d - 1)) b) (ListAt t) t n i0 w0 top link s0 h (next g.tree false end) v2 4 j f1 s1 (λ f. rw (e1, e2, g.is, terminator_no hs j k ke x, e)) g.goes g.within (omega arith) (omega (arith, length-set v1 free 0, length-set w1 (free + 1) 0)) (λ c o. far c (omega arith) (omega arith) ∙ g.kept c (omega arith) (omega arith)) (λ a. (free, f1, get_or v2 (free + 2) 0, (a, omega arith, omega (arith, h.at_p), ga, omega arith), get_or-set_other v1 free (free + 1) 0 0 (omega arith) ∙ get_or-set_same w1 (free + 1) 0 0 (omega arith), refl, rw (far (free + 2) (omega arith) (omega arith)) (and_or_frame t w1 v2 g.tree (free + 3) f1 (get_or w1 (free + 2) 0) (λ c u o. far c (omega arith) (omega arith)) g.coded), get_or-set_same v1 free 0 0 (omega (arith, length-set w1 (free + 1) 0)))) (g.staged ∙ same_max s (and_or_stage g.tree)) (omega (arith, g.room)))
+              let far : (c : ℕ) → c ≢ free → c ≢ free + 1 → get_or v2 c 0 ≡ get_or w1 c 0 = λ c u o. get_or-set_other v1 free c 0 0 u ∙ get_or-set_other w1 (free + 1) c y 0 o in
+              leveled 4 (rw e (omega arith)) (close CommandList list_stage (parse_list_go (level (d - 1)) b) (ListAt t) t n i0 w0 top link s0 h (next g.tree false end) v2 4 j f1 s1 (λ f. rw (e1, e2, g.is, terminator_no hs j k ke x, e)) g.goes g.within (omega arith) (omega (arith, length-set v1 free 0, length-set w1 (free + 1) y)) (λ c o. far c (omega arith) (omega arith) ∙ g.kept c (omega arith) (omega arith)) (λ a. (free, f1, get_or v2 (free + 2) 0, (a, omega arith, omega (arith, h.at_p), ga, omega arith), get_or-set_other v1 free (free + 1) 0 0 (omega arith) ∙ (get_or-set_same w1 (free + 1) y 0 (omega arith) ∙ ye), refl, rw (far (free + 2) (omega arith) (omega arith)) (and_or_frame t w1 v2 g.tree (free + 3) f1 (get_or w1 (free + 2) 0) (λ c u o. far c (omega arith) (omega arith)) g.coded), get_or-set_same v1 free 0 0 (omega (arith, length-set w1 (free + 1) y)))) (g.staged ∙ same_max s (and_or_stage g.tree)) (omega (arith, g.room)))
             where
               same_max : (s a : ℕ) → max s a ≡ max s (max a (max 0 0))
               same_max s a = omega arith

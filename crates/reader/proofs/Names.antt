@@ -6,7 +6,7 @@ use Rattle.syntax.specs.Base.{pick, Name, letter, digit, name_bytes, valid_name}
 use Rattle.grammar.specs.Tokens.{Token, token}
 use Rattle.grammar.specs.Grammar.{Split, split_equals, reserved, listed}
 use Rattle.grammar.specs.Parser.{Deeper, name_go, parse_name, parse_function, after_first}
-use Rattle.lexer.specs.Stored.{index_of, keyword_index, bare_code, assignment_code, word_code, sign_code, token_code_of, tokens_of, tokens_from, code_at, Has}
+use Rattle.lexer.specs.Stored.{Spelled, index_of, keyword_index, bare_code, assignment_code, word_code, sign_code, token_code_of, tokens_of, tokens_from, code_at, Has}
 use Rattle.grammar.proofs.Fit.{by_bool}
 use Rattle.lexer.proofs.Runs.{leb_no, leb_yes}
 use Rattle.lexer.proofs.Next.{eqb_no, eqb_yes}
@@ -130,26 +130,12 @@ true≢false : {A : Type 0} → true ≡ false → A
 true≢false e = absurd (subst T e tt)
 
 module _ {t : List ℕ} {n : ℕ} {m : List ℕ} (h : Has t n m) (i : ℕ) (k : ℕ) (ke : k ≡ code_at (tokens_from t i)) where
-  spelled : i < n → (b : List ℕ) → bytes1 (tokens_from t i) ≡ b → tag1 (tokens_from t i) ≡ 0 → take (get_or m (3 * i + 5) 0) (drop (get_or m (3 * i + 4) 0) t) ≡ b
-  spelled z b d e =
-      let p = get_or (tokens_of t) i (token false 0 []) in
-      let tg : p.kind ≡ 0 = sym (ap tag1 (here i h z)) ∙ e in
-      let tk : take (get_or m (3 * i + 3 + 2) 0) (drop (get_or m (3 * i + 3 + 1) 0) t) ≡ p.bytes = (h.stored i (omega (arith, h.count))).1 (omega (arith, tg)) in
-      subst (λ x. take (get_or m x 0) (drop (get_or m (3 * i + 4) 0) t) ≡ b) (omega arith) (subst (λ x. take (get_or m (3 * i + 3 + 2) 0) (drop (get_or m x 0) t) ≡ b) (omega arith) (tk ∙ (sym (ap bytes1 (here i h z)) ∙ d)))
-
   pub name_none : names k ≡ false → parse_name (tokens_from t i) ≡ none
   name_none e = go (name_is (tokens_from t i))
     where
       go : NameAt (tokens_from t i) (code_at (tokens_from t i)) → parse_name (tokens_from t i) ≡ none
       go (no_name a b d) = a
       go (a_name b a d f g z) = true≢false (sym d ∙ (ap names (sym ke) ∙ e))
-
-  pub name_here : names k ≡ true → i < n → NameHere t i (get_or m (3 * i + 4) 0) (get_or m (3 * i + 5) 0)
-  name_here e l = go (name_is (tokens_from t i))
-    where
-      go : NameAt (tokens_from t i) (code_at (tokens_from t i)) → NameHere t i (get_or m (3 * i + 4) 0) (get_or m (3 * i + 5) 0)
-      go (no_name a b d) = true≢false (sym e ∙ (ap names ke ∙ b))
-      go (a_name b a d f g z) = (b, a ∙ ap (λ ps. some (b, after_first ps)) (here i h l), spelled l b g z)
 
   pub function_none : (S : Deeper) → k ≢ 46 → parse_function S (tokens_from t i) ≡ none
   function_none S e = go (name_is (tokens_from t i))
@@ -158,9 +144,21 @@ module _ {t : List ℕ} {n : ℕ} {m : List ℕ} (h : Has t n m) (i : ℕ) (k : 
       go (no_name a b d) = rw a
       go (a_name b a d f g z) = rw (a, f ∙ ap not (eqb_no (code_at (tokens_from t i)) 46 (λ x. e (ke ∙ x))))
 
-  pub function_here : k ≡ 46 → i < n → (x : NameHere t i (get_or m (3 * i + 4) 0) (get_or m (3 * i + 5) 0)) × (listed x.0 reserved ≡ false)
-  function_here e l = go (name_is (tokens_from t i))
-    where
-      go : NameAt (tokens_from t i) (code_at (tokens_from t i)) → (x : NameHere t i (get_or m (3 * i + 4) 0) (get_or m (3 * i + 5) 0)) × (listed x.0 reserved ≡ false)
-      go (no_name a b d) = absurd (d (sym ke ∙ e))
-      go (a_name b a d f g z) = ((b, a ∙ ap (λ ps. some (b, after_first ps)) (here i h l), spelled l b g z), f ∙ ap not (eqb_yes (code_at (tokens_from t i)) 46 (sym ke ∙ e)))
+  -- its bytes are l0 of the text from s on
+  module _ (s l0 : ℕ) (sp : Spelled t s l0 (get_or (tokens_of t) i (token false 0 []))) where
+    spelled : i < n → (b : List ℕ) → bytes1 (tokens_from t i) ≡ b → tag1 (tokens_from t i) ≡ 0 → take l0 (drop s t) ≡ b
+    spelled z b d e = sp (omega (arith, sym (ap tag1 (here i h z)) ∙ e)) ∙ (sym (ap bytes1 (here i h z)) ∙ d)
+
+    pub name_here : names k ≡ true → i < n → NameHere t i s l0
+    name_here e l = go (name_is (tokens_from t i))
+      where
+        go : NameAt (tokens_from t i) (code_at (tokens_from t i)) → NameHere t i s l0
+        go (no_name a b d) = true≢false (sym e ∙ (ap names ke ∙ b))
+        go (a_name b a d f g z) = (b, a ∙ ap (λ ps. some (b, after_first ps)) (here i h l), spelled l b g z)
+
+    pub function_here : k ≡ 46 → i < n → (x : NameHere t i s l0) × (listed x.0 reserved ≡ false)
+    function_here e l = go (name_is (tokens_from t i))
+      where
+        go : NameAt (tokens_from t i) (code_at (tokens_from t i)) → (x : NameHere t i s l0) × (listed x.0 reserved ≡ false)
+        go (no_name a b d) = absurd (d (sym ke ∙ e))
+        go (a_name b a d f g z) = ((b, a ∙ ap (λ ps. some (b, after_first ps)) (here i h l), spelled l b g z), f ∙ ap not (eqb_yes (code_at (tokens_from t i)) 46 (sym ke ∙ e)))

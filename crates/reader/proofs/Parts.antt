@@ -7,8 +7,8 @@ use Rattle.syntax.specs.Tree.{WordPart, literal, parameter, substitution, Word, 
 use Rattle.grammar.specs.Tokens.{Token, token}
 use Rattle.grammar.specs.Grammar.{sign}
 use Rattle.grammar.specs.Parser.{Deeper, level, parse_part_go, parse_part, parse_more_go, parse_more, parse_word, next_joined, expect, parse_substitution, after_first}
-use Rattle.reader.specs.Layout.{BytesAt, PartAt, PartsAt, flag}
-use Rattle.lexer.specs.Stored.{token_code, tokens_of, tokens_from, Has, code_at}
+use Rattle.code.specs.Layout.{BytesAt, PartAt, PartsAt, flag}
+use Rattle.lexer.specs.Stored.{Spelled, token_code, tokens_of, tokens_from, Has, code_at}
 use Rattle.syntax.specs.Stage.{part_stage, word_stage}
 use Rattle.reader.specs.Reading.{part_tag, tag_stage, joins, GotPart, GotMore, GotWord, GotList}
 use Rattle.reader.proofs.Eats.{eat_sign, eat_no, code_41}
@@ -48,16 +48,13 @@ low t (suc (suc (suc (suc k)))) b h = absurd (omega arith)
 same_at : (m : List ℕ) (i x k : ℕ) → k ≡ i → i < length m → get_or (set m i x) k 0 ≡ x
 same_at m i x k e h = rw e (get_or-set_same m i x 0 h)
 
-pub part_low : (t : List ℕ) (n i d : ℕ) (m w : List ℕ) (top q s0 st : ℕ) → Has t n m → i < n → top + 4 ≤ length w → q ≡ part_tag (code_at (tokens_from t i)) → q < 4 → st ≡ tag_stage q (take (get_or m (3 * i + 5) 0) (drop (get_or m (3 * i + 4) 0) t)) → GotPart t n i d w (set (set (set w (top + 1) q) (top + 2) (get_or m (3 * i + 4) 0)) (top + 3) (get_or m (3 * i + 5) 0)) top (i + 1) (top + 4) s0 (max s0 st)
-part_low t n i d m w top q s0 st h l z e f g =
+pub part_low : (t : List ℕ) (n i d : ℕ) (m w : List ℕ) (top q s0 st s k : ℕ) → Has t n m → Spelled t s k (get_or (tokens_of t) i (token false 0 [])) → i < n → top + 4 ≤ length w → q ≡ part_tag (code_at (tokens_from t i)) → q < 4 → st ≡ tag_stage q (take k (drop s t)) → GotPart t n i d w (set (set (set w (top + 1) q) (top + 2) s) (top + 3) k) top (i + 1) (top + 4) s0 (max s0 st)
+part_low t n i d m w top q s0 st s k h sp l z e f g =
     let p = get_or (tokens_of t) i (token false 0 []) in
     let e1 : q ≡ part_tag (token_code p) = e ∙ ap (λ ps. part_tag (code_at ps)) (here i h l) in
     let v = view_low (view p) (omega (arith, e1)) in
     let x = low t p.kind p.bytes v.1 in
-    let s = get_or m (3 * i + 4) 0 in
-    let k = get_or m (3 * i + 5) 0 in
-    let tk = (h.stored i (omega (arith, h.count))).1 v.1 in
-    let tb : take k (drop s t) ≡ p.bytes = subst (λ a. take (get_or m a 0) (drop s t) ≡ p.bytes) (omega arith) (subst (λ a. take (get_or m (3 * i + 3 + 2) 0) (drop (get_or m a 0) t) ≡ p.bytes) (omega arith) tk) in
+    let tb : take k (drop s t) ≡ p.bytes = sp v.1 in
     let w1 = set w (top + 1) q in
     let w2 = set w1 (top + 2) s in
     let bytes : BytesAt t p.bytes (set w2 (top + 3) k) (top + 2) (top + 3) = rw (get_or-set_other w2 (top + 3) (top + 2) k 0 (omega arith), get_or-set_same w1 (top + 2) s 0 (omega (arith, length-set w (top + 1) q)), get_or-set_same w2 (top + 3) k 0 (omega (arith, length-set w1 (top + 2) s, length-set w (top + 1) q))) tb in
@@ -96,10 +93,11 @@ module _ (t : List ℕ) (n i d : ℕ) (m : List ℕ) (q : ℕ) (h : Has t n m) (
   pub run_open : {w1 : List ℕ} {j free top link s0 s : ℕ} {w0 : List ℕ} → GotList t n (i + 1) d true w0 w1 top link j free s0 s → (code_at (tokens_from t j) ≡ 41 → ⊥) → parse_part (level d) (tokens_from t i) ≡ none
   run_open {j = j} g x = runs.2 ∙ rw g.is (ap (λ o. on_some o (λ r1. some (substitution runs.0 g.tree, r1))) (eat_no (sign (41 ∷ [])) (tokens_from t j) (λ y. x (y ∙ code_41))))
 
-  pub run_got : {w w1 : List ℕ} {top j free s0 s : ℕ} → top + 4 ≤ length w → GotList t n (i + 1) d true (set w (top + 1) (q - 1)) w1 (top + 4) (top + 2) j free (max s0 2) s → code_at (tokens_from t j) ≡ 41 → j < n → GotPart t n i d w w1 top (j + 1) free s0 s
-  run_got {w} {w1} {top} {j} {free} {s0} {s} z g x in1 =
+  pub run_got : {w w1 : List ℕ} {top j free s0 s : ℕ} → top + 4 ≤ length w → (y : ℕ) → y + 1 ≡ q → GotList t n (i + 1) d true (set w (top + 1) y) w1 (top + 4) (top + 2) j free (max s0 2) s → code_at (tokens_from t j) ≡ 41 → j < n → GotPart t n i d w w1 top (j + 1) free s0 s
+  run_got {w} {w1} {top} {j} {free} {s0} {s} z y ye g x in1 =
+      let yr : y ≡ q - 1 = omega (arith, ye) in
       let a : expect (sign (41 ∷ [])) (tokens_from t j) ≡ some (tokens_from t (j + 1)) = eat_sign (41 ∷ []) (tokens_from t j) (x ∙ sym code_41) (omega (arith, code_41)) (omega (arith, code_41)) ∙ ap (λ ps. some (after_first ps)) (here j h in1) in
-      record { tree = substitution runs.0 g.tree; is = runs.2 ∙ rw g.is (ap (λ o. on_some o (λ r1. some (substitution runs.0 g.tree, r1))) a); coded = ((g.kept (top + 1) (omega arith) (omega arith) ∙ (get_or-set_same w (top + 1) (q - 1) 0 (omega arith) ∙ runs.1), g.coded), g.above); staged = omega (arith, g.staged); kept = λ k u v. g.kept k (omega arith) (omega arith) ∙ get_or-set_other w (top + 1) k (q - 1) 0 (omega arith); goes = omega (arith, g.goes); within = omega arith; above = omega (arith, g.above); fits = g.fits; room = omega (arith, g.room, g.goes) }
+      record { tree = substitution runs.0 g.tree; is = runs.2 ∙ rw g.is (ap (λ o. on_some o (λ r1. some (substitution runs.0 g.tree, r1))) a); coded = ((g.kept (top + 1) (omega arith) (omega arith) ∙ (get_or-set_same w (top + 1) y 0 (omega arith) ∙ (yr ∙ runs.1)), g.coded), g.above); staged = omega (arith, g.staged); kept = λ k u v. g.kept k (omega arith) (omega arith) ∙ get_or-set_other w (top + 1) k y 0 (omega arith); goes = omega (arith, g.goes); within = omega arith; above = omega (arith, g.above); fits = g.fits; room = omega (arith, g.room, g.goes) }
 
 pub more_holds : (t : List ℕ) (n i d : ℕ) (m w : List ℕ) (top link s : ℕ) → Has t n m → i ≤ n → top ≤ length w → link < top → Chain Word word_stage (parse_more_go (level d)) (PartsAt t) t n i w w top link i top link s s
 more_holds t n i d m w top link s h = chain Word word_stage (parse_more_go (level d)) (PartsAt t) t n i w top link s h.count

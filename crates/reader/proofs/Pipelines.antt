@@ -6,7 +6,7 @@ use Rattle.syntax.specs.Tree.{Pipeline, single, piped}
 use Rattle.syntax.specs.Stage.{pipeline_stage}
 use Rattle.grammar.specs.Parser.{level, parse_command, parse_pipeline_go, parse_pipeline, parse_negatable, is_not, lookahead}
 use Rattle.lexer.specs.Stored.{tokens_from, code_at, Has}
-use Rattle.reader.specs.Layout.{PipelineAt}
+use Rattle.code.specs.Layout.{PipelineAt}
 use Rattle.reader.specs.Reading.{GotCommand, GotPipeline, GotNegatable}
 use Rattle.reader.proofs.Frame.{command_frame}
 use Rattle.reader.proofs.Chains.{Chain, chain, step, close, fail}
@@ -33,8 +33,8 @@ module _ (t : List ℕ) (n i d : ℕ) (w : List ℕ) (top s : ℕ) {m : List ℕ
   pub plain_none : is_not (lookahead (tokens_from t i)) ≡ false → parse_pipeline (level d) (tokens_from t i) ≡ none → parse_negatable (level d) (tokens_from t i) ≡ none
   plain_none e f = rw (e, f)
 
-  pub plain_got : is_not (lookahead (tokens_from t i)) ≡ false → top + 4 ≤ length w → {w1 : List ℕ} {j free s1 : ℕ} → GotPipeline t n i d (set w (top + 2) 0) w1 (top + 4) (top + 3) j free s s1 → GotNegatable t n i d w w1 top j free s s1
-  plain_got e z {w1} {j} {free} {s1} g = record { tree = (false, g.tree); is = rw (e, g.is); coded = (g.above, g.kept (top + 2) (omega arith) (omega arith) ∙ get_or-set_same w (top + 2) 0 0 (omega arith), g.coded); staged = g.staged; kept = λ k x y. g.kept k (omega arith) (omega arith) ∙ get_or-set_other w (top + 2) k 0 0 (omega arith); goes = g.goes; within = g.within; above = omega (arith, g.above); fits = g.fits; room = omega (arith, g.room) }
+  pub plain_got : is_not (lookahead (tokens_from t i)) ≡ false → top + 4 ≤ length w → (y : ℕ) → y ≡ 0 → {w1 : List ℕ} {j free s1 : ℕ} → GotPipeline t n i d (set w (top + 2) y) w1 (top + 4) (top + 3) j free s s1 → GotNegatable t n i d w w1 top j free s s1
+  plain_got e z y ye {w1} {j} {free} {s1} g = record { tree = (false, g.tree); is = rw (e, g.is); coded = (g.above, g.kept (top + 2) (omega arith) (omega arith) ∙ (get_or-set_same w (top + 2) y 0 (omega arith) ∙ ye), g.coded); staged = g.staged; kept = λ k x u. g.kept k (omega arith) (omega arith) ∙ get_or-set_other w (top + 2) k y 0 (omega arith); goes = g.goes; within = g.within; above = omega (arith, g.above); fits = g.fits; room = omega (arith, g.room) }
 
   module _ (e : is_not (lookahead (tokens_from t i)) ≡ true) where
     pub not_none : (code_at (tokens_from t i) ≡ 31 → ⊥) → parse_negatable (level d) (tokens_from t i) ≡ none
@@ -44,5 +44,5 @@ module _ (t : List ℕ) (n i d : ℕ) (w : List ℕ) (top s : ℕ) {m : List ℕ
       pub negated_none : parse_pipeline (level d) (tokens_from t (i + 1)) ≡ none → parse_negatable (level d) (tokens_from t i) ≡ none
       negated_none f = rw (e, got_not hs i l.0 l.1, f)
 
-      pub negated_got : top + 4 ≤ length w → {w1 : List ℕ} {j free s1 : ℕ} → GotPipeline t n (i + 1) d (set w (top + 2) 1) w1 (top + 4) (top + 3) j free s s1 → GotNegatable t n i d w w1 top j free s s1
-      negated_got z {w1} {j} {free} {s1} g = record { tree = (true, g.tree); is = rw (e, got_not hs i l.0 l.1, g.is); coded = (g.above, g.kept (top + 2) (omega arith) (omega arith) ∙ get_or-set_same w (top + 2) 1 0 (omega arith), g.coded); staged = g.staged; kept = λ k x y. g.kept k (omega arith) (omega arith) ∙ get_or-set_other w (top + 2) k 1 0 (omega arith); goes = omega (arith, g.goes); within = g.within; above = omega (arith, g.above); fits = g.fits; room = omega (arith, g.room) }
+      pub negated_got : top + 4 ≤ length w → (y : ℕ) → y ≡ 1 → {w1 : List ℕ} {j free s1 : ℕ} → GotPipeline t n (i + 1) d (set w (top + 2) y) w1 (top + 4) (top + 3) j free s s1 → GotNegatable t n i d w w1 top j free s s1
+      negated_got z y ye {w1} {j} {free} {s1} g = record { tree = (true, g.tree); is = rw (e, got_not hs i l.0 l.1, g.is); coded = (g.above, g.kept (top + 2) (omega arith) (omega arith) ∙ (get_or-set_same w (top + 2) y 0 (omega arith) ∙ ye), g.coded); staged = g.staged; kept = λ k x u. g.kept k (omega arith) (omega arith) ∙ get_or-set_other w (top + 2) k y 0 (omega arith); goes = omega (arith, g.goes); within = g.within; above = omega (arith, g.above); fits = g.fits; room = omega (arith, g.room) }

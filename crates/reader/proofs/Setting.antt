@@ -7,8 +7,8 @@ use Rattle.syntax.specs.Tree.{Word, and_part, literal, Assignments, no_assignmen
 use Rattle.grammar.specs.Tokens.{Token, token}
 use Rattle.grammar.specs.Grammar.{Split, put_before}
 use Rattle.grammar.specs.Parser.{Parsed, level, parse_more, parse_assignments_go, parse_assignments, assignment_at, after_first}
-use Rattle.reader.specs.Layout.{BytesAt, PartsAt, AssignmentsAt}
-use Rattle.lexer.specs.Stored.{tokens_of, tokens_from, Has, code_at}
+use Rattle.code.specs.Layout.{BytesAt, PartsAt, AssignmentsAt}
+use Rattle.lexer.specs.Stored.{Spelled, tokens_of, tokens_from, Has, code_at}
 use Rattle.syntax.specs.Stage.{word_stage, assignments_stage, has_wildcard}
 use Rattle.syntax.specs.Base.{pick}
 use Rattle.reader.specs.Reading.{GotMore, GotValue, value_of, GotAssignments}
@@ -60,35 +60,30 @@ value_part t n i d s l w top link {w1} {j} {free} {s0} {s1} st stg a b lt z g =
     record { tree = put_before bs g.tree; is = rw g.is; coded = subst (λ x. PartsAt t x top free w1 link) (sym (only1_some bs g.tree (some_bytes t s l a b))) (top, top + 4, (lk, omega arith, omega arith, omega arith, g.above), (e1, bytes), g.coded); staged = omega (arith, g.staged, stg, ap word_stage (only1_some bs g.tree (some_bytes t s l a b))); kept = λ k x y. g.kept k (omega arith) (omega arith) ∙ (get_or-set_other v2 (top + 3) k l 0 (omega arith) ∙ (get_or-set_other v1 (top + 2) k s 0 (omega arith) ∙ (get_or-set_other v0 (top + 1) k 0 0 (omega arith) ∙ get_or-set_other w link k top 0 y))); goes = g.goes; within = g.within; above = omega (arith, g.above); fits = g.fits; room = omega (arith, g.room) }
 
 abbrev SetHere : List ℕ → ℕ → ℕ → ℕ → ℕ → Type 0
-SetHere t i k s l = (c : Split) × (assignment_at (tokens_from t i) ≡ some c) × (k ≡ 64 + length c.before) × (take l (drop s t) ≡ c.before ++ (61 ∷ c.behind))
+SetHere t i k s l = (c : Split) × (assignment_at (tokens_from t i) ≡ some c) × (k ≡ length c.before) × (take l (drop s t) ≡ c.before ++ (61 ∷ c.behind))
 
-module _ {t : List ℕ} {n : ℕ} {m : List ℕ} (i : ℕ) (h : Has t n m) (k : ℕ) (ke : k ≡ code_at (tokens_from t i)) where
-  pub set_none : k < 64 → assignment_at (tokens_from t i) ≡ none
-  set_none l = go (set_is (tokens_from t i))
+module _ {t : List ℕ} {n : ℕ} {m : List ℕ} (i : ℕ) (h : Has t n m) where
+  pub set_none : (k : ℕ) → k ≡ code_at (tokens_from t i) → k < 64 → assignment_at (tokens_from t i) ≡ none
+  set_none k ke l = go (set_is (tokens_from t i))
     where
       go : SetAt (tokens_from t i) (code_at (tokens_from t i)) → assignment_at (tokens_from t i) ≡ none
       go (none_at a b) = b
       go (some_at c a b d e) = absurd (omega (arith, ke, b))
 
-  pub set_here : 64 ≤ k → i < n → SetHere t i k (get_or m (3 * i + 4) 0) (get_or m (3 * i + 5) 0)
-  set_here l z = go (set_is (tokens_from t i))
-    where
-      go : SetAt (tokens_from t i) (code_at (tokens_from t i)) → SetHere t i k (get_or m (3 * i + 4) 0) (get_or m (3 * i + 5) 0)
-      go (none_at a b) = absurd (omega (arith, ke, a))
-      go (some_at c a b d e) =
-          let p = get_or (tokens_of t) i (token false 0 []) in
-          let tg : p.kind ≡ 0 = sym (ap tag1 (here i h z)) ∙ e in
-          let tk : take (get_or m (3 * i + 3 + 2) 0) (drop (get_or m (3 * i + 3 + 1) 0) t) ≡ p.bytes = (h.stored i (omega (arith, h.count))).1 (omega (arith, tg)) in
-          let q1 : 3 * i + 3 + 1 ≡ 3 * i + 4 = omega arith in
-          let q2 : 3 * i + 3 + 2 ≡ 3 * i + 5 = omega arith in
-          (c, a, ke ∙ b, subst (λ x. take (get_or m x 0) (drop (get_or m (3 * i + 4) 0) t) ≡ c.before ++ (61 ∷ c.behind)) q2 (subst (λ x. take (get_or m (3 * i + 3 + 2) 0) (drop (get_or m x 0) t) ≡ c.before ++ (61 ∷ c.behind)) q1 (tk ∙ (sym (ap bytes1 (here i h z)) ∙ d))))
+  -- a name of k bytes and =, the bytes are l of the text from s on
+  module _ (k : ℕ) (ke : 64 + k ≡ code_at (tokens_from t i)) (z : i < n) (s l : ℕ) (sp : Spelled t s l (get_or (tokens_of t) i (token false 0 []))) where
+    pub set_here : SetHere t i k s l
+    set_here = go (set_is (tokens_from t i))
+      where
+        go : SetAt (tokens_from t i) (code_at (tokens_from t i)) → SetHere t i k s l
+        go (none_at a b) = absurd (omega (arith, ke, a))
+        go (some_at c a b d e) = (c, a, omega (arith, ke, b), sp (omega (arith, sym (ap tag1 (here i h z)) ∙ e)) ∙ (sym (ap bytes1 (here i h z)) ∙ d))
 
-  pub set_bounds : 64 ≤ k → i < n → (k - 64 + 1 ≤ get_or m (3 * i + 5) 0) × (get_or m (3 * i + 4) 0 + (k - 64 + 1) ≤ length t)
-  set_bounds a b =
-      let q = set_here a b in
-      let c = q.0 in
-      let len = ap length q.3 in
-      (omega (arith, q.2, len, length-append c.before (61 ∷ c.behind), length-take (get_or m (3 * i + 5) 0) (drop (get_or m (3 * i + 4) 0) t)), omega (arith, q.2, len, length-append c.before (61 ∷ c.behind), length-take (get_or m (3 * i + 5) 0) (drop (get_or m (3 * i + 4) 0) t), length-drop (get_or m (3 * i + 4) 0) t))
+    pub set_bounds : k + 1 ≤ l
+    set_bounds =
+        let q = set_here in
+        let c = q.0 in
+        omega (arith, q.2, ap length q.3, length-append c.before (61 ∷ c.behind), length-take l (drop s t))
 
 before_is : (t b r : List ℕ) (s l m : ℕ) → take l (drop s t) ≡ b ++ (61 ∷ r) → length b ≡ m → m ≤ l → take m (drop s t) ≡ b
 before_is t b r s l m e f g = sym (take-take m l (drop s t) g) ∙ (ap (take m) e ∙ take_at b (61 ∷ r) m f)
@@ -109,37 +104,33 @@ undo (some y) b T R e = let q = some_is e in (y.0, ap (λ r. some (y.0, r)) (ap 
 pub assignments_hold : (t : List ℕ) (n i d : ℕ) (m w : List ℕ) (top link s : ℕ) → Has t n m → i ≤ n → top ≤ length w → link < top → Chain Assignments assignments_stage (parse_assignments_go (level d)) (AssignmentsAt t) t n i w w top link i top link s s
 assignments_hold t n i d m w top link s h = chain Assignments assignments_stage (parse_assignments_go (level d)) (AssignmentsAt t) t n i w top link s h.count
 
-module _ (d : ℕ) {t : List ℕ} {n i0 : ℕ} {m w0 w : List ℕ} (hs : Has t n m) {top link i free p s0 st : ℕ} (h : Chain Assignments assignments_stage (parse_assignments_go (level d)) (AssignmentsAt t) t n i0 w0 w top link i free p s0 st) (k : ℕ) (ke : k ≡ code_at (tokens_from t i)) where
-  pub assignments_end : k < 64 → GotAssignments t n i0 d w0 (set w p 0) top link i free s0 st
-  assignments_end e = finish Assignments assignments_stage (parse_assignments_go (level d)) (AssignmentsAt t) t n i0 w0 top link s0 h no_assignments (λ fu. rw (set_none i hs k ke e)) (λ v x. x) refl
+module _ (d : ℕ) {t : List ℕ} {n i0 : ℕ} {m w0 w : List ℕ} (hs : Has t n m) {top link i free p s0 st : ℕ} (h : Chain Assignments assignments_stage (parse_assignments_go (level d)) (AssignmentsAt t) t n i0 w0 w top link i free p s0 st) where
+  pub assignments_end : (k : ℕ) → k ≡ code_at (tokens_from t i) → k < 64 → GotAssignments t n i0 d w0 (set w p 0) top link i free s0 st
+  assignments_end k ke e = finish Assignments assignments_stage (parse_assignments_go (level d)) (AssignmentsAt t) t n i0 w0 top link s0 h no_assignments (λ fu. rw (set_none i hs k ke e)) (λ v x. x) refl
 
-  pub assignments_over : 64 ≤ k → n ≤ i → parse_assignments (level d) (tokens_from t i0) ≡ none
-  assignments_over e l = absurd (omega (arith, ke, ap code_at (there i hs l)))
+  module _ (k : ℕ) (ke : 64 + k ≡ code_at (tokens_from t i)) (z : i < n) (s l : ℕ) (sp : Spelled t s l (get_or (tokens_of t) i (token false 0 []))) where
+    tl_is : after_first (tokens_from t i) ≡ tokens_from t (i + 1)
+    tl_is = ap after_first (here i hs z)
 
-  tl_is : i < n → after_first (tokens_from t i) ≡ tokens_from t (i + 1)
-  tl_is l = ap after_first (here i hs l)
+    pub assignments_fail : value_of t d (i + 1) (s + (k + 1)) (l - (k + 1)) ≡ none → parse_assignments (level d) (tokens_from t i0) ≡ none
+    assignments_fail f = fail Assignments assignments_stage (parse_assignments_go (level d)) (AssignmentsAt t) t n i0 w0 top link s0 h (λ fu. rw ((set_here i hs k ke z s l sp).1, tl_is, unmade (parse_more (level d) (tokens_from t (i + 1))) f))
+      where
+        unmade : (o : Parsed Word) → on_some {A = Word × List Token} {C = Word × List Token} o (λ x. some (put_before (take (l - (k + 1)) (drop (s + (k + 1)) t)) x.0, x.1)) ≡ none → o ≡ none
+        unmade none e = refl
+        unmade (some x) e = absurd (not_none (sym e))
 
-  pub assignments_fail : 64 ≤ k → i < n → value_of t d (i + 1) (get_or m (3 * i + 4) 0 + (k - 64 + 1)) (get_or m (3 * i + 5) 0 - (k - 64 + 1)) ≡ none → parse_assignments (level d) (tokens_from t i0) ≡ none
-  assignments_fail a b f = fail Assignments assignments_stage (parse_assignments_go (level d)) (AssignmentsAt t) t n i0 w0 top link s0 h (λ fu. rw ((set_here i hs k ke a b).1, tl_is b, unmade (parse_more (level d) (tokens_from t (i + 1))) f))
-    where
-      unmade : (o : Parsed Word) → on_some {A = Word × List Token} {C = Word × List Token} o (λ x. some (put_before (take (get_or m (3 * i + 5) 0 - (k - 64 + 1)) (drop (get_or m (3 * i + 4) 0 + (k - 64 + 1)) t)) x.0, x.1)) ≡ none → o ≡ none
-      unmade none e = refl
-      unmade (some x) e = absurd (not_none (sym e))
-
-  pub assignments_step : 64 ≤ k → i < n → free + 4 ≤ length w → {w1 : List ℕ} {j free1 s1 : ℕ} → GotValue t n (i + 1) d (get_or m (3 * i + 4) 0 + (k - 64 + 1)) (get_or m (3 * i + 5) 0 - (k - 64 + 1)) (set (set (set w p free) (free + 1) (get_or m (3 * i + 4) 0)) (free + 2) (k - 64)) w1 (free + 4) (free + 3) j free1 st s1 → Chain Assignments assignments_stage (parse_assignments_go (level d)) (AssignmentsAt t) t n i0 w0 w1 top link j free1 free s0 s1
-  assignments_step a b z {w1} {j} {free1} {s1} g =
-      let q = set_here i hs k ke a b in
-      let c = q.0 in
-      let s = get_or m (3 * i + 4) 0 in
-      let l = get_or m (3 * i + 5) 0 in
-      let bd = set_bounds i hs k ke a b in
-      let u = undo (parse_more (level d) (tokens_from t (i + 1))) (take (l - (k - 64 + 1)) (drop (s + (k - 64 + 1)) t)) g.tree (tokens_from t j) g.is in
-      let len : length c.before ≡ k - 64 = omega (arith, q.2) in
-      let bh : take (l - (k - 64 + 1)) (drop (s + (k - 64 + 1)) t) ≡ c.behind = behind_is t c.before c.behind s l (k - 64) q.3 len (omega (arith, bd.0)) in
-      let bf : take (k - 64) (drop s t) ≡ c.before = before_is t c.before c.behind s l (k - 64) q.3 len (omega (arith, bd.0)) in
-      let tr : put_before c.behind u.0 ≡ g.tree = ap (λ x. put_before x u.0) (sym bh) ∙ u.2 in
-      let v0 = set w p free in
-      let v1 = set v0 (free + 1) s in
-      let e1 : get_or w1 (free + 1) 0 ≡ s = g.kept (free + 1) (omega arith) (omega arith) ∙ (get_or-set_other v1 (free + 2) (free + 1) (k - 64) 0 (omega arith) ∙ get_or-set_same v0 (free + 1) s 0 (omega (arith, length-set w p free))) in
-      let e2 : get_or w1 (free + 2) 0 ≡ k - 64 = g.kept (free + 2) (omega arith) (omega arith) ∙ get_or-set_same v1 (free + 2) (k - 64) 0 (omega (arith, length-set v0 (free + 1) s, length-set w p free)) in
-      step Assignments assignments_stage (parse_assignments_go (level d)) (AssignmentsAt t) t n i0 w0 top link s0 h (λ x. assign c.before g.tree x) w1 j free1 (λ fu. rw (q.1, tl_is b, u.1) (ap (λ T. on_some {A = Assignments × List Token} {C = Assignments × List Token} (parse_assignments_go (level d) fu (tokens_from t j)) (λ y. some (assign c.before T y.0, y.1))) tr)) (omega (arith, g.goes)) g.within (omega (arith, g.above)) g.fits (λ x y. g.kept x (omega arith) (omega arith) ∙ (get_or-set_other v1 (free + 2) x (k - 64) 0 (omega arith) ∙ get_or-set_other v0 (free + 1) x s 0 (omega arith))) (omega (arith, g.room)) (λ v hi le f l1 x y. (free, free1, (x, omega arith, omega (arith, h.at_p), g.above, le), bytes_of t c.before v (free + 1) (free + 2) s (k - 64) (f (free + 1) (omega (arith, g.above)) (omega arith) ∙ e1) (f (free + 2) (omega (arith, g.above)) (omega arith) ∙ e2) bf, parts_frame t w1 v g.tree (free + 4) free1 (free + 3) (λ o m r. f o r (omega arith)) (f (free + 3) (omega (arith, g.above)) (omega arith)) g.coded, y)) s1 (λ l. omega (arith, g.staged))
+    pub assignments_step : free + 4 ≤ length w → {w1 : List ℕ} {j free1 s1 : ℕ} → GotValue t n (i + 1) d (s + (k + 1)) (l - (k + 1)) (set (set (set w p free) (free + 1) s) (free + 2) k) w1 (free + 4) (free + 3) j free1 st s1 → Chain Assignments assignments_stage (parse_assignments_go (level d)) (AssignmentsAt t) t n i0 w0 w1 top link j free1 free s0 s1
+    assignments_step z4 {w1} {j} {free1} {s1} g =
+        let q = set_here i hs k ke z s l sp in
+        let c = q.0 in
+        let bd = set_bounds i hs k ke z s l sp in
+        let u = undo (parse_more (level d) (tokens_from t (i + 1))) (take (l - (k + 1)) (drop (s + (k + 1)) t)) g.tree (tokens_from t j) g.is in
+        let len : length c.before ≡ k = omega (arith, q.2) in
+        let bh : take (l - (k + 1)) (drop (s + (k + 1)) t) ≡ c.behind = behind_is t c.before c.behind s l k q.3 len (omega (arith, bd)) in
+        let bf : take k (drop s t) ≡ c.before = before_is t c.before c.behind s l k q.3 len (omega (arith, bd)) in
+        let tr : put_before c.behind u.0 ≡ g.tree = ap (λ x. put_before x u.0) (sym bh) ∙ u.2 in
+        let v0 = set w p free in
+        let v1 = set v0 (free + 1) s in
+        let e1 : get_or w1 (free + 1) 0 ≡ s = g.kept (free + 1) (omega arith) (omega arith) ∙ (get_or-set_other v1 (free + 2) (free + 1) k 0 (omega arith) ∙ get_or-set_same v0 (free + 1) s 0 (omega (arith, length-set w p free))) in
+        let e2 : get_or w1 (free + 2) 0 ≡ k = g.kept (free + 2) (omega arith) (omega arith) ∙ get_or-set_same v1 (free + 2) k 0 (omega (arith, length-set v0 (free + 1) s, length-set w p free)) in
+        step Assignments assignments_stage (parse_assignments_go (level d)) (AssignmentsAt t) t n i0 w0 top link s0 h (λ x. assign c.before g.tree x) w1 j free1 (λ fu. rw (q.1, tl_is, u.1) (ap (λ T. on_some {A = Assignments × List Token} {C = Assignments × List Token} (parse_assignments_go (level d) fu (tokens_from t j)) (λ y. some (assign c.before T y.0, y.1))) tr)) (omega (arith, g.goes)) g.within (omega (arith, g.above)) g.fits (λ x y. g.kept x (omega arith) (omega arith) ∙ (get_or-set_other v1 (free + 2) x k 0 (omega arith) ∙ get_or-set_other v0 (free + 1) x s 0 (omega arith))) (omega (arith, g.room)) (λ v hi le f l1 x y. (free, free1, (x, omega arith, omega (arith, h.at_p), g.above, le), bytes_of t c.before v (free + 1) (free + 2) s k (f (free + 1) (omega (arith, g.above)) (omega arith) ∙ e1) (f (free + 2) (omega (arith, g.above)) (omega arith) ∙ e2) bf, parts_frame t w1 v g.tree (free + 4) free1 (free + 3) (λ o m r. f o r (omega arith)) (f (free + 3) (omega (arith, g.above)) (omega arith)) g.coded, y)) s1 (λ l. omega (arith, g.staged))

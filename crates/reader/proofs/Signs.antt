@@ -7,7 +7,7 @@ use Rattle.grammar.specs.Grammar.{sign}
 use Rattle.grammar.specs.Parser.{Lookahead, la_part, la_odd, Entry, look_up, keyword_table, sign_table, lookahead, lookahead_of, no_word, next_joined, expect, redirect_at, after_first}
 use Rattle.lexer.specs.Stored.{index_of, sign_names, sign_code, token_code_of, code_at}
 use Rattle.syntax.specs.Tree.{RedirectKind, input, output, append, here}
-use Rattle.reader.specs.Layout.{kind_code}
+use Rattle.code.specs.Layout.{kind_code}
 use Rattle.reader.specs.Reading.{ends_words}
 use Rattle.grammar.proofs.Fit.{by_bool}
 use Rattle.lexer.proofs.Runs.{leb_no, leb_yes}

@@ -5,7 +5,7 @@ use Rattle.std.proofs.lemmas.List.{get_or-set_same, get_or-set_other}
 use Rattle.syntax.specs.Tree.{Word, no_words, and_word, Assignments, no_assignments, assign, no_redirects, simple}
 use Rattle.grammar.specs.Tokens.{Token, token}
 use Rattle.grammar.specs.Parser.{Parsed, level, parse_word, parse_words, parse_redirects, parse_simple, assignments_alone, first_word_fits, no_word, lookahead, next_joined}
-use Rattle.reader.specs.Layout.{AssignmentsAt}
+use Rattle.code.specs.Layout.{AssignmentsAt}
 use Rattle.lexer.specs.Stored.{tokens_of, tokens_from, Has, code_at}
 use Rattle.reader.specs.Reading.{ends_words, joins, may_be_first, GotAssignments, GotWord, GotWords, GotRedirects, GotCommand}
 use Rattle.reader.proofs.Views.{here, there, glued_is}

@@ -1,5 +1,5 @@
 -- A whole text.
-use Rattle.std.proofs.Common.{◌≡◌, ℕ, ◌+◌, ◌<◌, ◌≤◌, max, Bool, true, false, ◌&&◌, T, leb, List, ◌∷◌, length, get_or, take, sym, refl, ap, ◌∙◌, arith, leb→le}
+use Rattle.std.proofs.Common.{◌≡◌, ℕ, ◌+◌, ◌<◌, ◌≤◌, max, Bool, true, false, ◌&&◌, T, leb, List, ◌∷◌, length, get_or, take, sym, refl, ap, ◌∙◌, subst, arith, leb→le}
 use mathlib.Core.Option.{some, none}
 use Rattle.std.proofs.lemmas.List.{get_or-take}
 use Rattle.syntax.specs.Tree.{CommandList}
@@ -9,6 +9,7 @@ use Rattle.grammar.specs.Grammar.{Parses}
 use Rattle.grammar.specs.Parser.{level, whole, parse}
 use Rattle.grammar.proofs.Both.{parser_agrees}
 use Rattle.lexer.specs.Stored.{tokens_of, tokens_from, Has}
+use Rattle.lexer.proofs.Lex.{tokens_few}
 use Rattle.reader.specs.Reading.{GotList}
 use Rattle.reader.specs.Answer.{IsProgram, NoProgram}
 use Rattle.reader.proofs.Basics.{not_none}
@@ -19,6 +20,10 @@ use Rattle.reader.proofs.Views.{here, there}
 parse_is : (t : List ℕ) → parse (tokens start t) ≡ whole ((level 33).lists true (tokens_from t 0))
 unfolding parse tokens_of
 parse_is t = refl
+
+pub few_tokens : (t : List ℕ) → length (tokens_of t) ≤ length t + 1
+unfolding tokens_of
+few_tokens t = tokens_few t
 
 first_of : (a b : Bool) → T (a && b) → T a
 first_of true b h = tt
@@ -43,8 +48,9 @@ module _ (t : List ℕ) (n : ℕ) {m w w1 : List ℕ} {j free s : ℕ} (hs : Has
   kept : (k : ℕ) → k < free → get_or (take free w1) k 0 ≡ get_or w1 k 0
   kept k l = get_or-take free w1 k 0 l
 
-  pub program : n ≤ length t + 1 → n ≤ j → IsProgram t w1 (get_or w1 1 0) free s
-  program few k =
+  pub program : n ≤ j → IsProgram t w1 (get_or w1 1 0) free s
+  program k =
+      let few : n ≤ length t + 1 = omega (arith, hs.count, few_tokens t) in
       let a = g.above in
       let e : parse (tokens start t) ≡ some g.tree = parse_is t ∙ (ap whole g.is ∙ ap (λ ps. whole (some (g.tree, ps))) (there j hs k)) in
       let f = list_frame t w1 (take free w1) g.tree 2 free 1 (λ x u v. kept x v) (kept 1 (omega arith)) g.coded in
@@ -52,3 +58,7 @@ module _ (t : List ℕ) (n : ℕ) {m w w1 : List ℕ} {j free s : ℕ} (hs : Has
     where
       zero_max : (x : ℕ) → max 0 x ≡ x
       zero_max x = omega arith
+
+-- the same of an equal text and equal words
+pub moved : {t u w w1 : List ℕ} {root words s : ℕ} → t ≡ u → w ≡ w1 → IsProgram t w1 root words s → IsProgram u w root words s
+moved {t} {u} {w} {w1} {root} {words} {s} e f p = subst (λ z. IsProgram u z root words s) (sym f) (subst (λ z. IsProgram z w1 root words s) e p)

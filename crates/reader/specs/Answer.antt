@@ -3,7 +3,7 @@ use Rattle.std.specs.Prelude.{◌≡◌, ℕ, ◌+◌, ◌*◌, ◌≤◌, List,
 use Rattle.syntax.specs.Tree.{CommandList}
 use Rattle.syntax.specs.Stage.{stage}
 use Rattle.grammar.specs.Grammar.{Parses}
-use Rattle.reader.specs.Code.{ListCode}
+use Rattle.code.specs.Code.{ListCode}
 
 -- the list of commands that the text is, its code in the first words, with the address of its first cell, and its stage
 pub record IsProgram (text code : List ℕ) (root words st : ℕ) : Type 0 where

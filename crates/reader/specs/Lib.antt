@@ -3,4 +3,5 @@ pub use Rattle.code.specs.Layout
 pub use Rattle.code.specs.Code
 pub mod Reading
 pub mod Aheads
+pub mod Parsing
 pub mod Answer

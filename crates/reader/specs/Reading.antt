@@ -1,13 +1,18 @@
 -- What a parsing function makes: a tree, where it ends, its code and its stage.
-use Rattle.std.specs.Prelude.{◌≡◌, ℕ, zero, suc, ◌+◌, ◌-◌, ◌*◌, ◌<◌, ◌≤◌, max, Bool, true, false, ◌&&◌, ◌||◌, ◌≢◌, List, [], ◌∷◌, length, take, drop, ◌==◌, nat_le, slice_index, slice_index_or}
+use Rattle.std.specs.Prelude.{◌≡◌, ℕ, zero, suc, ◌+◌, ◌-◌, ◌*◌, ◌<◌, ◌≤◌, max, Bool, true, false, ◌&&◌, ◌||◌, ◌≢◌, ◌⊎◌, List, [], ◌∷◌, length, take, drop, ◌==◌, nat_le, slice_index, slice_index_or, MatchOption}
+use Rattle.std.specs.declared.option.Option.{Option}
+use Rattle.std.specs.declared.option.Option.TheVariants.{Some, None}
 use Rattle.std.proofs.Math.Option.{some}
 use Rattle.syntax.specs.Base.{pick, on_some}
 use Rattle.syntax.specs.Tree.{WordPart, Word, Words, Assignments, Redirects, Command, ElsePart, Arms, Pipeline, AndOr, CommandList}
 use Rattle.syntax.specs.Stage.{positional, has_wildcard, part_stage, word_stage, words_stage, assignments_stage, redirects_stage, command_stage, else_stage, arms_stage, pipeline_stage, and_or_stage, list_stage}
 use Rattle.grammar.specs.Grammar.{put_before}
 use Rattle.grammar.specs.Parser.{Parsed, level, parse_part, parse_more, parse_word, parse_words, parse_assignments, parse_redirects, parse_arms, parse_pipeline, parse_negatable, parse_and_or, Lookahead, la_end, la_odd, la_part, Entry, keyword_table, sign_table}
-use Rattle.lexer.specs.Stored.{tokens_from, Has}
-use Rattle.reader.specs.Layout.{flag, PartAt, PartsAt, WordsAt, AssignmentsAt, RedirectsAt, CommandAt, ElseAt, ArmsAt, PipelineAt, AndOrAt, ListAt}
+use Rattle.lexer.specs.declared.token.PartTag.{PartTag}
+use Rattle.lexer.specs.declared.token.RedirectTag.{RedirectTag}
+use Rattle.lexer.specs.Codes.{part_code, redirect_code}
+use Rattle.lexer.specs.Stored.{tokens_from}
+use Rattle.code.specs.Layout.{flag, PartAt, PartsAt, WordsAt, AssignmentsAt, RedirectsAt, CommandAt, ElseAt, ArmsAt, PipelineAt, AndOrAt, ListAt}
 
 -- the tag of a part, from its token's code; 4: no part
 abbrev pub low_tag : ℕ → ℕ
@@ -15,6 +20,11 @@ low_tag k = pick (k == 7) 4 k
 
 abbrev pub part_tag : ℕ → ℕ
 part_tag k = pick (nat_le 64 k) 0 (pick (k == 46) 0 (pick (nat_le 32 k) 4 (pick (nat_le 16 k) 0 (pick (nat_le 8 k) (low_tag (k - 8)) (low_tag k)))))
+
+-- the same from the part itself
+abbrev pub tag_of : Option PartTag → ℕ
+tag_of None = 4
+tag_of (Some p) = part_code p
 
 -- the stage of a part with the tag k, 0 to 3, and the bytes b
 abbrev pub tag_stage : ℕ → List ℕ → ℕ
@@ -50,20 +60,6 @@ nth_lookahead (suc j) (e ∷ es) d = nth_lookahead j es d
 -- what stands there, by the token's code and whether the next one is joined
 abbrev pub lookahead_by : ℕ → Bool → Lookahead
 lookahead_by k g = pick (k == 47) la_end (pick (nat_le 46 k) la_part (pick (nat_le 32 k) (nth_lookahead (k - 32) sign_table la_odd) (pick (nat_le 16 k) (pick g la_part (nth_lookahead (k - 16) keyword_table la_part)) (pick (nat_le 7 k) la_odd la_part))))
-
--- a text with its n tokens, of which the one at is looked at
-pub record Ready (t : List ℕ) (n : ℕ) (m : List ℕ) (at : ℕ) : Type 0 where
-  pub has : Has t n m
-  pub small : length t ≤ 16384
-  pub few : n ≤ 16385
-  pub held : 3 * n + 3 ≤ length m
-  pub inside : at ≤ n
-
--- room for the code of what stands from the token at on, with lists left deep, at top
-pub record Room (n at left extra top : ℕ) (w : List ℕ) : Type 0 where
-  pub fits : top ≤ length w
-  pub room : top + (16 * n + (4 * left + extra)) ≤ length w + (16 * at + 16)
-  pub short : length w < 4294967296
 
 -- from token i to token j, from the free word top to the free word free, from the stage s0 to the stage s: a tree as the
 -- parser has it, its code, all words below top as they were but the link, and at most 16 words a token and 16 - e more
@@ -125,6 +121,22 @@ GotAndOr t n i d w0 w top link j free s0 s = Made AndOr and_or_stage (parse_and_
 
 abbrev pub GotList : List ℕ → ℕ → ℕ → ℕ → Bool → List ℕ → List ℕ → ℕ → ℕ → ℕ → ℕ → ℕ → ℕ → Type 0
 GotList t n i d b w0 w top link j free s0 s = Made CommandList list_stage ((level d).lists b (tokens_from t i)) (λ x hi m. ListAt t x top hi m link) t n i w0 w top link (pick b 4 16) j free s0 s
+
+-- the redirection that a token with the code k begins
+abbrev pub IsRedirect : ℕ → Option RedirectTag → Type 0
+IsRedirect k r = MatchOption r ((k < 36) ⊎ (39 < k)) (λ tag. k ≡ 36 + redirect_code tag)
+
+-- the length of the name before the = of a token with the code k
+abbrev pub IsAssignment : ℕ → Option ℕ → Type 0
+IsAssignment k r = MatchOption r (k < 64) (λ name. k ≡ 64 + name)
+
+-- whether a token with the code k joins pipelines: && or ||
+abbrev pub IsJoint : ℕ → Option Bool → Type 0
+IsJoint k r = MatchOption r ((k < 42) ⊎ (43 < k)) (λ both. (42 ≤ k) × (k ≤ 43) × (flag both ≡ 43 - k))
+
+-- whether a token with the code k ends a command: ; or & or the end of a line
+abbrev pub IsTerminator : ℕ → Option Bool → Type 0
+IsTerminator k r = MatchOption r (false ≡ nat_le 32 k && nat_le k 34) (λ background. (background ≡ (k == 34)) × (true ≡ nat_le 32 k && nat_le k 34))
 
 -- an else cell at top whose list has one command, an if at command: the words around it
 pub record Nest (w0 w : List ℕ) (top cell node command : ℕ) : Type 0 where

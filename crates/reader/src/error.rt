@@ -1,7 +1,10 @@
 //! Why a text is no list of commands.
+ghost use Rattle.std.specs.Prelude.{◌≡◌, ◌≤◌, length};
+
+use lexer::Tokens;
 
 /// What would have been read at the place where reading stopped.
-#[derive(Clone, Copy, Drop)]
+#[derive(Clone, Copy, Debug, PartialEq, Eq)]
 pub enum Expected {
     Command,
     Word,
@@ -24,15 +27,27 @@ pub enum Expected {
 }
 
 /// The token at which reading stopped.
-#[derive(Clone, Copy, Drop)]
+#[derive(Clone, Copy, Debug, PartialEq, Eq)]
 pub struct Stop {
     pub token: usize,
     pub expected: Expected,
 }
 
 /// The byte of the text at which reading stopped.
-#[derive(Clone, Copy, Drop)]
+#[derive(Clone, Copy, Debug, PartialEq, Eq)]
 pub struct SyntaxError {
     pub at: usize,
     pub expected: Expected,
+}
+
+impl Stop {
+    /// The same with its place in the text.
+    pub fn in_text(self, tokens: &Tokens<'_>) -> SyntaxError
+        ensures { result.at ≤ length tokens.now.text.now }
+    {
+        SyntaxError {
+            at: tokens.place(self.token),
+            expected: self.expected,
+        }
+    }
 }

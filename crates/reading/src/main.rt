@@ -4,45 +4,17 @@
 use front::faults::{Fault, read_text};
 use front::visible::Visible;
 use std::fs;
-use view::tree::{Code, show_list};
+use view::tree::show_program;
 
 /// What stands between two texts of a file: a line with %%.
-const BETWEEN: &[u8] = b"\n%%\n";
-
-/// How many bytes stand before the next line with %%, or before the last end of line.
-fn first_length(rest: &[u8]) -> usize {
-    for i in 0..rest.len() {
-        if rest[i..].starts_with(BETWEEN) {
-            return i;
-        }
-    }
-    if rest.ends_with(b"\n") {
-        rest.len().saturating_sub(1)
-    } else {
-        rest.len()
-    }
-}
+const BETWEEN: &str = "\n%%\n";
 
 /// What a text is: its tree and stage, or where reading it stopped.
 fn show_text(rt: &HostRuntime, text: &[u8]) -> anyhow::Result<()> {
     let shown = Visible(text);
     println!(rt; "== {shown}")?;
-    let reading = read_text(rt.alloc(), text)?;
-    match reading.program {
-        Ok(program) => {
-            show_list(
-                rt,
-                Code {
-                    text,
-                    words: &reading.code,
-                },
-                program.root,
-                1,
-                33,
-            )?;
-            let stage = program.stage;
-            println!(rt; "stage {stage}")?;
-        }
+    match read_text(rt.alloc(), text)? {
+        Ok(reading) => show_program(rt, text, &reading)?,
         Err(error) => {
             let fault = Fault {
                 name: "text",
@@ -55,26 +27,19 @@ fn show_text(rt: &HostRuntime, text: &[u8]) -> anyhow::Result<()> {
     Ok(())
 }
 
+/// The texts of a file, which ends with the end of a line.
 fn show_file(rt: &HostRuntime, name: &str) -> anyhow::Result<()> {
-    let bytes = fs::read(rt, name)?;
-    let all = bytes.as_slice();
-    let mut at = 0;
-    for _ in 0..all.len() {
-        if at >= all.len() {
-            break;
-        }
-        let n = first_length(&all[at..]);
-        let end = at.saturating_add(n).min(all.len());
-        show_text(rt, &all[at..end])?;
-        at = end.saturating_add(BETWEEN.len());
+    let file = fs::read_to_string(rt, name)?;
+    let texts = file.as_str();
+    for text in texts.strip_suffix("\n").unwrap_or(texts).split(BETWEEN) {
+        show_text(rt, text.as_bytes())?;
     }
     Ok(())
 }
 
 /// For each byte a word in single quotes that has it, and one in double quotes.
 fn show_bytes(rt: &HostRuntime) -> anyhow::Result<()> {
-    for b in 0..256u32 {
-        let byte = (b % 256) as u8;
+    for byte in 0..=u8::MAX {
         let text = [b'a', b' ', b'\'', byte, b'\'', b' ', b'"', byte, b'"'];
         show_text(rt, &text)?;
     }

@@ -1,4 +1,3 @@
--- Laws of chains and of looking at code.
-mod Chains
+-- Laws of looking at code.
 mod Spelling
 mod Walks

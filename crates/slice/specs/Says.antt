@@ -1,48 +1,34 @@
 -- What an answer says of each kind of code: it is right for every tree that is coded at the address and not too deep.
-use Rattle.std.specs.Prelude.{◌≡◌, ℕ, ◌+◌, ◌<◌, Bool, true, ◌&&◌, List, slice_index}
-use Rattle.syntax.specs.Base.{Name}
-use Rattle.syntax.specs.Tree.{Word, Words, Assignments, Redirects, Command, simple, group, if, while, ElsePart, Pipeline, AndOr, CommandList}
+use Rattle.std.specs.Prelude.{◌≡◌, ℕ, ◌+◌, ◌<◌, Bool, ◌&&◌, List, take, drop, slice_index, nat_le}
+use Rattle.std.specs.List.{flat_map}
+use Rattle.syntax.specs.Tree.{Words, Command, ElsePart, Pipeline, AndOr, CommandList}
 use Rattle.syntax.specs.Depth.{list_depth, and_or_depth, pipeline_depth, command_depth, else_depth}
-use Rattle.reader.specs.Code.{WordCode, WordsCode, AssignmentsCode, RedirectsCode, CommandCode, ElseCode, PipelineCode, AndOrCode, ListCode}
-use Rattle.slice.specs.Slice.{literals, all_literals, word_bytes, names_covered, covers_command, covers_else, covers_pipeline, covers_and_or, covers_list}
+use Rattle.code.specs.Code.{WordsCode, CommandCode, ElseCode, PipelineCode, AndOrCode, ListCode}
+use Rattle.slice.specs.Slice.{all_literals, names_covered, covers_command, covers_else, covers_pipeline, covers_and_or, covers_list}
 
-abbrev pub LiteralsSays : List ℕ → ℕ → Bool → Type 0
-LiteralsSays code a r = (text : List ℕ) (w : Word) → WordCode text code a w → r ≡ literals w
+-- whether the cell of a part says that it is a literal
+abbrev pub is_literal : List ℕ → ℕ → Bool
+is_literal words a = nat_le (slice_index words (a + 1)) 1
 
-abbrev pub AllLiteralsSays : List ℕ → ℕ → Bool → Type 0
-AllLiteralsSays code a r = (text : List ℕ) (ws : Words) → WordsCode text code a ws → r ≡ all_literals ws
-
-module _ (text code : List ℕ) where
-  -- what f says of a word of literals
-  abbrev pub NameSays : ℕ → (Name → Bool) → Bool → Type 0
-  NameSays a f r = (w : Word) → WordCode text code a w → literals w ≡ true → r ≡ f (word_bytes w)
+module _ (text words : List ℕ) where
+  -- the bytes whose starts and numbers stand in these cells
+  abbrev pub spelled : List ℕ → List ℕ
+  spelled xs = flat_map (λ a. take (slice_index words (a + 3)) (drop (slice_index words (a + 2)) text)) xs
 
   abbrev pub WordsSays : ℕ → Bool → Type 0
-  WordsSays a r = (ws : Words) → WordsCode text code a ws → r ≡ (all_literals ws && names_covered ws)
-
-  abbrev pub SimpleSays : ℕ → Bool → Type 0
-  SimpleSays a r = (ss : Assignments) (ws : Words) (ts : Redirects) → AssignmentsCode text code (slice_index code (a + 2)) ss → WordsCode text code (slice_index code (a + 3)) ws → RedirectsCode text code (slice_index code (a + 4)) ts → r ≡ covers_command (simple ss ws ts)
+  WordsSays a r = (ws : Words) → WordsCode text words a ws → r ≡ (all_literals ws && names_covered ws)
 
   abbrev pub ListSays : ℕ → ℕ → Bool → Type 0
-  ListSays a left r = (l : CommandList) → ListCode text code a l → list_depth l < left → r ≡ covers_list l
+  ListSays a left r = (l : CommandList) → ListCode text words a l → list_depth l < left → r ≡ covers_list l
 
   abbrev pub ElseSays : ℕ → ℕ → Bool → Type 0
-  ElseSays a left r = (e : ElsePart) → ElseCode text code a e → else_depth e < left → r ≡ covers_else e
-
-  abbrev pub GroupSays : ℕ → ℕ → Bool → Type 0
-  GroupSays a left r = (l : CommandList) (ts : Redirects) → ListCode text code (slice_index code (a + 2)) l → RedirectsCode text code (slice_index code (a + 3)) ts → list_depth l < left → r ≡ covers_command (group l ts)
-
-  abbrev pub IfSays : ℕ → ℕ → Bool → Type 0
-  IfSays a left r = (b c : CommandList) (e : ElsePart) (ts : Redirects) → ListCode text code (slice_index code (a + 2)) b → ListCode text code (slice_index code (a + 3)) c → ElseCode text code (slice_index code (a + 4)) e → RedirectsCode text code (slice_index code (a + 5)) ts → list_depth b < left → list_depth c < left → else_depth e < left → r ≡ covers_command (if b c e ts)
-
-  abbrev pub WhileSays : ℕ → ℕ → Bool → Type 0
-  WhileSays a left r = (b c : CommandList) (ts : Redirects) → ListCode text code (slice_index code (a + 2)) b → ListCode text code (slice_index code (a + 3)) c → RedirectsCode text code (slice_index code (a + 4)) ts → list_depth b < left → list_depth c < left → r ≡ covers_command (while b c ts)
+  ElseSays a left r = (e : ElsePart) → ElseCode text words a e → else_depth e < left → r ≡ covers_else e
 
   abbrev pub CommandSays : ℕ → ℕ → Bool → Type 0
-  CommandSays a left r = (c : Command) → CommandCode text code a c → command_depth c < left → r ≡ covers_command c
+  CommandSays a left r = (c : Command) → CommandCode text words a c → command_depth c < left → r ≡ covers_command c
 
   abbrev pub PipelineSays : ℕ → ℕ → Bool → Type 0
-  PipelineSays a left r = (p : Pipeline) → PipelineCode text code a p → pipeline_depth p < left → r ≡ covers_pipeline p
+  PipelineSays a left r = (p : Pipeline) → PipelineCode text words a p → pipeline_depth p < left → r ≡ covers_pipeline p
 
   abbrev pub AndOrSays : ℕ → ℕ → Bool → Type 0
-  AndOrSays a left r = (x : AndOr) → AndOrCode text code a x → and_or_depth x < left → r ≡ covers_and_or x
+  AndOrSays a left r = (x : AndOr) → AndOrCode text words a x → and_or_depth x < left → r ≡ covers_and_or x

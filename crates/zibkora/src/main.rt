@@ -4,9 +4,8 @@
 use anyhow::anyhow;
 use front::faults::{Fault, read_text};
 use front::files::fill;
-use front::options::{Options, Source, Usage};
-use front::source::{name_of, options_of, text_of};
-use front::{Outcome, on_paper};
+use front::options::{Options, Source};
+use front::program::answer;
 use pipes::{Ran, run};
 use std::io::Write;
 use std::process::ExitCode;
@@ -45,10 +44,9 @@ The exit status is 0 only for `ended 0`.
 
 /// Where reading the text stopped, on standard error.
 fn explain(rt: &HostRuntime, source: &Source, text: &[u8]) -> anyhow::Result<()> {
-    let reading = read_text(rt.alloc(), text)?;
-    if let Err(error) = reading.program {
+    if let Err(error) = read_text(rt.alloc(), text)? {
         let fault = Fault {
-            name: name_of(source),
+            name: source.name(),
             text,
             error,
         };
@@ -57,82 +55,53 @@ fn explain(rt: &HostRuntime, source: &Source, text: &[u8]) -> anyhow::Result<()>
     Ok(())
 }
 
-fn run_text(rt: &HostRuntime, o: &Options, source: &Source) -> anyhow::Result<Ran> {
+fn run_text(rt: &HostRuntime, options: &Options) -> anyhow::Result<Ran> {
     let heap = rt.alloc();
     let mut text = vec![in heap; 0u8; TEXT_BYTES]?;
-    let n = match text_of(rt, source, &mut text) {
-        Ok(n) => n,
-        Err(_) => return Err(anyhow!("the text cannot be read")),
+    let Ok(text) = options.source.read(rt, &mut text) else {
+        return Err(anyhow!("the text cannot be read"));
     };
     let mut input = vec![in heap; 0u8; INPUT_BYTES]?;
-    let m = if o.input {
+    let input = if options.input {
         fill(&mut rt.stdin(), &mut input)?
     } else {
-        0
+        &[]
     };
-    if m == INPUT_BYTES {
+    if input.len() == INPUT_BYTES {
         return Err(anyhow!("the input has more than 1048576 bytes"));
     }
     let mut paper = vec![in heap; 0u8; PAPER_BYTES]?;
-    let words = o.words.unwrap_or(WORDS);
+    let words = options.words.unwrap_or(WORDS);
     if words > WORDS {
         return Err(anyhow!("--words takes at most 520000"));
     }
     let mut work = vec![in heap; 0u32; words]?;
-    let n = n.min(text.len());
-    let m = m.min(input.len());
-    let r = run(
-        &text[0..n],
-        &input[0..m],
-        o.moves.unwrap_or(MOVES),
-        &mut paper,
-        &mut work,
-    );
-    if let Ran::NoText = r {
-        explain(rt, source, &text[0..n])?;
+    let moves = options.moves.unwrap_or(MOVES);
+    let ran = run(text, input, moves, &mut paper, &mut work);
+    if ran == Ran::NoText {
+        explain(rt, &options.source, text)?;
     }
-    let k = on_paper(r);
-    if k <= paper.len() {
-        rt.stdout().write_all(&paper[0..k])?;
-    }
-    Ok(r)
+    rt.stdout().write_all(&paper[..ran.on_paper()])?;
+    Ok(ran)
 }
 
-/// Runs the text that the command line names; whether it came to `ended 0`.
-fn answer(rt: &HostRuntime) -> anyhow::Result<bool> {
-    let o = match options_of(rt)? {
-        Ok(o) => o,
-        Err(Usage::Help) => {
-            print!(rt; "{HELP}")?;
-            return Ok(true);
-        }
-        Err(Usage::Wrong(why)) => {
-            eprintln!(rt; "zibkora: {why}; --help says more")?;
-            return Ok(false);
-        }
-    };
-    let Some(source) = &o.source else {
-        return Ok(false);
-    };
-    let r = match run_text(rt, &o, source) {
-        Ok(r) => r,
+/// Runs the text that the command line names. The last line on standard error is how the run came out.
+fn run_named(rt: &HostRuntime, options: &Options) -> anyhow::Result<ExitCode> {
+    let ran = match run_text(rt, options) {
+        Ok(ran) => ran,
         Err(e) => {
             eprintln!(rt; "zibkora: {e}")?;
-            return Ok(false);
+            return Ok(ExitCode::FAILURE);
         }
     };
-    let out = Outcome(r);
-    eprintln!(rt; "{out}")?;
-    match r {
-        Ran::Ended(_, 0) => Ok(true),
-        _ => Ok(false),
-    }
+    eprintln!(rt; "{ran}")?;
+    Ok(match ran {
+        Ran::Ended(_, 0) => ExitCode::SUCCESS,
+        _ => ExitCode::FAILURE,
+    })
 }
 
-/// The last line on standard error is how the run came out, so an error that is returned is not printed behind it.
+/// An error is not printed behind that line.
 fn main(rt: HostRuntime) -> ExitCode {
-    match answer(&rt) {
-        Ok(true) => ExitCode::SUCCESS,
-        _ => ExitCode::FAILURE,
-    }
+    answer(&rt, "zibkora", HELP, |options| run_named(&rt, &options)).unwrap_or(ExitCode::FAILURE)
 }

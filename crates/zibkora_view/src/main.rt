@@ -2,17 +2,16 @@
 #![tactic(auto)]
 
 use front::faults::{Fault, read_text};
-use front::options::{Source, Usage};
-use front::source::{name_of, options_of, text_of};
-use lexer::tokenize;
+use front::options::Options;
+use front::program::answer;
+use lexer::{MAX_TEXT, tokenize};
+use reader::{TOKENS_EXTRA, TOKENS_PER_BYTE};
 use std::process::ExitCode;
 use view::tokens::show_tokens;
-use view::tree::{Code, show_list};
+use view::tree::show_program;
 
 /// The longest text that is read, and a byte more.
-const LONGEST: usize = 16384;
-
-const TEXT_BYTES: usize = 16385;
+const TEXT_BYTES: usize = MAX_TEXT + 1;
 
 const HELP: &str = "usage: zibkora_view (FILE | -c TEXT)
 
@@ -23,78 +22,48 @@ expected there, and the exit status is 1.
 
 /// The tokens of a text that is not too long.
 fn show_all_tokens(rt: &HostRuntime, text: &[u8]) -> anyhow::Result<()> {
-    if text.len() > LONGEST {
+    if text.len() > MAX_TEXT {
         return Ok(());
     }
-    let mut words = vec![in rt.alloc(); 0u32; 3 * text.len() + 6]?;
-    let n = tokenize(text, &mut words);
+    let mut words = vec![in rt.alloc(); 0u32; TOKENS_PER_BYTE * text.len() + TOKENS_EXTRA]?;
+    let tokens = tokenize(text, &mut words);
     println!(rt; "tokens")?;
-    show_tokens(rt, text, &words, n)?;
+    show_tokens(rt, &tokens)?;
     Ok(())
 }
 
-fn show(rt: &HostRuntime, name: &str, text: &[u8]) -> anyhow::Result<bool> {
+fn show(rt: &HostRuntime, name: &str, text: &[u8]) -> anyhow::Result<ExitCode> {
     show_all_tokens(rt, text)?;
-    let reading = read_text(rt.alloc(), text)?;
-    match reading.program {
-        Ok(program) => {
+    match read_text(rt.alloc(), text)? {
+        Ok(reading) => {
             println!(rt; "tree")?;
-            show_list(
-                rt,
-                Code {
-                    text,
-                    words: &reading.code,
-                },
-                program.root,
-                1,
-                33,
-            )?;
-            let stage = program.stage;
-            println!(rt; "stage {stage}")?;
-            Ok(true)
+            show_program(rt, text, &reading)?;
+            Ok(ExitCode::SUCCESS)
         }
         Err(error) => {
             let fault = Fault { name, text, error };
             eprintln!(rt; "{fault}")?;
-            Ok(false)
+            Ok(ExitCode::FAILURE)
         }
     }
 }
 
-fn view_source(rt: &HostRuntime, source: &Source) -> anyhow::Result<bool> {
+/// Shows the text that the command line names.
+fn show_named(rt: &HostRuntime, options: &Options) -> anyhow::Result<ExitCode> {
     let mut text = vec![in rt.alloc(); 0u8; TEXT_BYTES]?;
-    let n = match text_of(rt, source, &mut text) {
-        Ok(n) => n.min(text.len()),
-        Err(_) => {
-            eprintln!(rt; "zibkora_view: the text cannot be read")?;
-            return Ok(false);
-        }
+    let Ok(text) = options.source.read(rt, &mut text) else {
+        eprintln!(rt; "zibkora_view: the text cannot be read")?;
+        return Ok(ExitCode::FAILURE);
     };
-    show(rt, name_of(source), &text[0..n])
-}
-
-/// Shows the text that the command line names; whether it is a list of commands.
-fn answer(rt: &HostRuntime) -> anyhow::Result<bool> {
-    let o = match options_of(rt)? {
-        Ok(o) => o,
-        Err(Usage::Help) => {
-            print!(rt; "{HELP}")?;
-            return Ok(true);
-        }
-        Err(Usage::Wrong(why)) => {
-            eprintln!(rt; "zibkora_view: {why}; --help says more")?;
-            return Ok(false);
-        }
-    };
-    let Some(source) = &o.source else {
-        return Ok(false);
-    };
-    view_source(rt, source)
+    show(rt, options.source.name(), text)
 }
 
 fn main(rt: HostRuntime) -> ExitCode {
-    match answer(&rt) {
-        Ok(true) => ExitCode::SUCCESS,
-        _ => ExitCode::FAILURE,
-    }
+    answer(
+        &rt,
+        "zibkora_view",
+        HELP,
+        |options| show_named(&rt, &options),
+    )
+    .unwrap_or(ExitCode::FAILURE)
 }

@@ -1,90 +1,122 @@
-use Rattle.std.proofs.Common.{arith}
-use Rattle.slice.proofs.Walks.{group_redirects, group_list, while_redirects, while_condition, while_body, else_none, else_list, if_redirects, if_condition, if_then, if_else, command_simple, command_group, command_if, command_while, command_other, pipeline_piped, pipeline_single, and_or_start, and_or_more, and_or_no, and_or_end, and_or_round, list_start, list_more, list_background, list_no, list_round, list_end}
+use Rattle.std.proofs.Common.{◌∙◌, subst, ⊎_elim, arith, rules}
+use Rattle.std.proofs.lemmas.Bool.{eq-eqb, ne_eqb, both_ways}
+use Rattle.code.specs.Chains.{links_of}
+use Rattle.code.specs.Cells.{CommandIs}
+use Rattle.slice.proofs.Walks.{list_start, list_more, list_background, list_no, list_end, and_or_start, and_or_more, and_or_no, and_or_end, simple_no, simple_yes, group_no, group_yes, if_no, if_condition, if_then, if_yes, while_no, while_condition, while_yes, other, other_cell, no_value, pipeline_no, pipeline_yes, else_none, else_some}
 use Rattle.slice.proofs.+parsing.Goals as goal
+use Rattle.slice.proofs.+parsing.Goals.{covers_commands-then-item-via-then-item, covers_commands-then-item-via-else-item+then-not-covers_and_or, covers_command-then-redirects-eq0-3, covers_command-else-redirects-eq0-3, covers_command-then-covers_commands, covers_command-else-covers_commands, covers_command-then-redirects-eq0-4, covers_command-else-redirects-eq0-4}
 
-pub covers_and_or-pipelines-init : goal.covers_and_or-pipelines-init
-covers_and_or-pipelines-init t c = (omega arith, omega arith, and_or_start c.args.text.now c.args.code.now c.args.last c.args.left)
+pub covers_and_or-loop-at-init : goal.covers_and_or-loop-at-init
+covers_and_or-loop-at-init t c = record {
+  can_next = tt;
+  is_finite = tt;
+  walk = λ x. and_or_start c.args.code.text.now c.args.code.words.now c.args.last c.args.left (links_of c.into_iter-at-iterator.result) x (cc);
+}
 
-pub covers_and_or-returns-then-used-code : goal.covers_and_or-returns-then-used-code
-covers_and_or-returns-then-used-code t c = and_or_round c.args.text.now c.args.code.now c.args.last c.args.left c.pipelines.a c.pipelines.used c.pipelines.invariant.2 c.if-used-code.true
+pub covers_and_or-returns-then-not-covers_pipeline :
+    goal.covers_and_or-returns-then-not-covers_pipeline
+covers_and_or-returns-then-not-covers_pipeline t c = λ x h d. and_or_no c.args.code.text.now c.args.code.words.now c.in-Some.at c.args.left c.and_or.result.pipeline c.covers_pipeline.result (links_of c.loop-at.at-iterator) (links_of c.next.new.self) x (cc) c.in-Some.ensures.steps c.covers_pipeline.ensures (cc) (c.loop-at.invariant.walk x h d)
 
-pub covers_and_or-returns-then-not-covers_pipeline : goal.covers_and_or-returns-then-not-covers_pipeline
-covers_and_or-returns-then-not-covers_pipeline t c = and_or_no c.args.text.now c.args.code.now c.args.last c.args.left c.pipelines.a c.pipelines.used c.word.result c.covers_pipeline.result c.pipelines.invariant.2 c.word.ensures c.covers_pipeline.ensures c.if-not-covers_pipeline.true
+pub covers_and_or-loop-at-preserved : goal.covers_and_or-loop-at-preserved
+covers_and_or-loop-at-preserved t c = record {
+  can_next = tt;
+  is_finite = tt;
+  walk = λ x h d. and_or_more c.args.code.text.now c.args.code.words.now c.in-Some.at c.args.left c.and_or.result.pipeline c.covers_pipeline.result (links_of c.loop-at.at-iterator) (links_of c.next.new.self) x (cc) c.in-Some.ensures.steps c.covers_pipeline.ensures (cc) (c.loop-at.invariant.walk x h d);
+}
 
-pub covers_and_or-returns-then-a-eq0 : goal.covers_and_or-returns-then-a-eq0
-covers_and_or-returns-then-a-eq0 t c = and_or_end c.args.text.now c.args.code.now c.args.last c.args.left c.pipelines.a c.pipelines.used c.word-a.result c.word.result c.covers_pipeline.result c.pipelines.invariant.2 c.word.ensures c.covers_pipeline.ensures c.if-not-covers_pipeline.false c.word-a.ensures c.if-a-eq0.true
+pub covers_and_or-returns : goal.covers_and_or-returns
+covers_and_or-returns t c = λ x h d. and_or_end c.args.code.text.now c.args.code.words.now c.args.left (links_of c.loop-at.at-iterator) x c.in-None.ensures.steps.0 (c.loop-at.invariant.walk x h d)
 
-pub covers_and_or-pipelines-preserved : goal.covers_and_or-pipelines-preserved
-covers_and_or-pipelines-preserved t c = (c.word-a.type_inv, omega arith, and_or_more c.args.text.now c.args.code.now c.args.last c.args.left c.pipelines.a c.pipelines.used c.word-a.result c.word.result c.covers_pipeline.result c.pipelines.invariant.2 c.word.ensures c.covers_pipeline.ensures c.if-not-covers_pipeline.false c.word-a.ensures c.if-a-eq0.false)
+pub covers_command-returns-then-redirects-eq0 : goal.covers_command-returns-then-redirects-eq0
+covers_command-returns-then-redirects-eq0 t c = simple_yes c.args.code.text.now c.args.code.words.now c.args.at c.args.left c.in-Some.left (omega arith) c.in-Simple.assignments c.in-Simple.words c.in-Simple.redirects c.covers_words.result (subst (CommandIs c.args.code.text.now c.args.code.words.now c.args.at) c.in-Simple.is c.in-Some-command.ensures) c.if-redirects-eq0.true.0 c.if-redirects-eq0.true.1 c.covers_words.ensures
 
-pub covers_command-returns-in-0 : goal.covers_command-returns-in-0
-covers_command-returns-in-0 t c = command_simple c.args.text.now c.args.code.now c.args.a c.args.left c.word.result c.covers_simple.result c.word.ensures c.in-0.is c.covers_simple.ensures
+pub covers_command-returns-else-redirects-eq0 : goal.covers_command-returns-else-redirects-eq0
+covers_command-returns-else-redirects-eq0 t c = simple_no c.args.code.text.now c.args.code.words.now c.args.at c.args.left c.in-Some.left (omega arith) c.in-Simple.assignments c.in-Simple.words c.in-Simple.redirects _ (subst (CommandIs c.args.code.text.now c.args.code.words.now c.args.at) c.in-Simple.is c.in-Some-command.ensures) (λ y z. ⊎_elim (λ h. h.1 z) (λ h. h y) c.if-redirects-eq0.either) (search rules)
 
-pub covers_command-returns-in-1 : goal.covers_command-returns-in-1
-covers_command-returns-in-1 t c = command_group c.args.text.now c.args.code.now c.args.a c.args.left c.word.result c.covers_group.result c.word.ensures c.in-1.is c.covers_group.ensures
+pub covers_command-returns-then-redirects-eq0-2 : goal.covers_command-returns-then-redirects-eq0-2
+covers_command-returns-then-redirects-eq0-2 t c = group_yes c.args.code.text.now c.args.code.words.now c.args.at c.args.left c.in-Some.left (omega arith) c.in-Group.list c.in-Group.redirects c.covers_commands.result (subst (CommandIs c.args.code.text.now c.args.code.words.now c.args.at) c.in-Group.is c.in-Some-command.ensures) c.if-redirects-eq0-2.true c.covers_commands.ensures
 
-pub covers_command-returns-in-3 : goal.covers_command-returns-in-3
-covers_command-returns-in-3 t c = command_if c.args.text.now c.args.code.now c.args.a c.args.left c.word.result c.covers_if.result c.word.ensures c.in-3.is c.covers_if.ensures
+pub covers_command-returns-else-redirects-eq0-2 : goal.covers_command-returns-else-redirects-eq0-2
+covers_command-returns-else-redirects-eq0-2 t c = group_no c.args.code.text.now c.args.code.words.now c.args.at c.args.left c.in-Some.left (omega arith) c.in-Group.list c.in-Group.redirects _ (subst (CommandIs c.args.code.text.now c.args.code.words.now c.args.at) c.in-Group.is c.in-Some-command.ensures) c.if-redirects-eq0-2.false (ne_eqb c.in-Group.redirects 0 c.if-redirects-eq0-2.false)
 
-pub covers_command-returns-in-4 : goal.covers_command-returns-in-4
-covers_command-returns-in-4 t c = command_while c.args.text.now c.args.code.now c.args.a c.args.left c.word.result c.covers_while.result c.word.ensures c.in-4.is c.covers_while.ensures
+pub covers_command-returns-then-covers_commands-2 :
+    goal.covers_command-returns-then-covers_commands-2
+covers_command-returns-then-covers_commands-2 t c =
+    elim c.if-covers_commands.branch [
+      | covers_command-then-covers_commands w ↦ elim c.if-redirects-eq0-3.branch [
+        | covers_command-then-redirects-eq0-3 v ↦ if_yes c.args.code.text.now c.args.code.words.now c.args.at c.args.left c.in-Some.left (omega arith) c.in-If.condition c.in-If.then c.in-If.otherwise c.in-If.redirects (subst (CommandIs c.args.code.text.now c.args.code.words.now c.args.at) c.in-If.is c.in-Some-command.ensures) v.covers_commands-then-redirects-eq0-3.result w.covers_commands-then-covers_commands.result c.covers_else.result v.if-redirects-eq0-3.true v.covers_commands-then-redirects-eq0-3.ensures (cc) w.covers_commands-then-covers_commands.ensures (cc) c.covers_else.ensures
+        | covers_command-else-redirects-eq0-3 v ↦ absurd (no_value c.in-If.redirects c.if-redirects-eq0-3.value v.if-redirects-eq0-3.false (cc) (cc))
+      ]
+      | covers_command-else-covers_commands w ↦ absurd (both_ways c.if-covers_commands.value (cc) (cc))
+    ]
 
-pub covers_command-returns-in_default : goal.covers_command-returns-in_default
-covers_command-returns-in_default t c = command_other c.args.text.now c.args.code.now c.args.a c.args.left c.word.result c.word.ensures (λ z. omega arith) (λ z. omega arith) (λ z. omega arith) (λ z. omega arith)
+pub covers_command-returns-else-covers_commands-2 :
+    goal.covers_command-returns-else-covers_commands-2
+covers_command-returns-else-covers_commands-2 t c =
+    elim c.if-covers_commands.branch [
+      | covers_command-then-covers_commands w ↦ elim c.if-redirects-eq0-3.branch [
+        | covers_command-then-redirects-eq0-3 v ↦ if_then c.args.code.text.now c.args.code.words.now c.args.at c.args.left c.in-Some.left (omega arith) c.in-If.condition c.in-If.then c.in-If.otherwise c.in-If.redirects (subst (CommandIs c.args.code.text.now c.args.code.words.now c.args.at) c.in-If.is c.in-Some-command.ensures) v.covers_commands-then-redirects-eq0-3.result w.covers_commands-then-covers_commands.result c.if-covers_commands.value v.covers_commands-then-redirects-eq0-3.ensures (cc) w.covers_commands-then-covers_commands.ensures (cc) (cc)
+        | covers_command-else-redirects-eq0-3 v ↦ if_no c.args.code.text.now c.args.code.words.now c.args.at c.args.left c.in-Some.left (omega arith) c.in-If.condition c.in-If.then c.in-If.otherwise c.in-If.redirects (subst (CommandIs c.args.code.text.now c.args.code.words.now c.args.at) c.in-If.is c.in-Some-command.ensures) c.if-covers_commands.value v.if-redirects-eq0-3.false (cc)
+      ]
+      | covers_command-else-covers_commands w ↦ elim c.if-redirects-eq0-3.branch [
+        | covers_command-then-redirects-eq0-3 v ↦ if_condition c.args.code.text.now c.args.code.words.now c.args.at c.args.left c.in-Some.left (omega arith) c.in-If.condition c.in-If.then c.in-If.otherwise c.in-If.redirects (subst (CommandIs c.args.code.text.now c.args.code.words.now c.args.at) c.in-If.is c.in-Some-command.ensures) v.covers_commands-then-redirects-eq0-3.result c.if-covers_commands.value v.covers_commands-then-redirects-eq0-3.ensures (cc) (cc)
+        | covers_command-else-redirects-eq0-3 v ↦ if_no c.args.code.text.now c.args.code.words.now c.args.at c.args.left c.in-Some.left (omega arith) c.in-If.condition c.in-If.then c.in-If.otherwise c.in-If.redirects (subst (CommandIs c.args.code.text.now c.args.code.words.now c.args.at) c.in-If.is c.in-Some-command.ensures) c.if-covers_commands.value v.if-redirects-eq0-3.false (cc)
+      ]
+    ]
 
-pub covers_commands-commands-init : goal.covers_commands-commands-init
-covers_commands-commands-init t c = (omega arith, omega arith, list_start c.args.text.now c.args.code.now c.args.root c.args.left)
+pub covers_command-returns-then-covers_commands-3 :
+    goal.covers_command-returns-then-covers_commands-3
+covers_command-returns-then-covers_commands-3 t c =
+    elim c.if-redirects-eq0-4.branch [
+      | covers_command-then-redirects-eq0-4 v ↦ while_yes c.args.code.text.now c.args.code.words.now c.args.at c.args.left c.in-Some.left (omega arith) c.in-While.condition c.in-While.body c.in-While.redirects (subst (CommandIs c.args.code.text.now c.args.code.words.now c.args.at) c.in-While.is c.in-Some-command.ensures) v.covers_commands-then-redirects-eq0-4.result c.covers_commands-then-covers_commands-3.result v.if-redirects-eq0-4.true v.covers_commands-then-redirects-eq0-4.ensures (cc) c.covers_commands-then-covers_commands-3.ensures
+      | covers_command-else-redirects-eq0-4 v ↦ absurd (no_value c.in-While.redirects c.if-redirects-eq0-4.value v.if-redirects-eq0-4.false (cc) (cc))
+    ]
 
-pub covers_commands-returns-then-used-code : goal.covers_commands-returns-then-used-code
-covers_commands-returns-then-used-code t c = list_round c.args.text.now c.args.code.now c.args.root c.args.left c.commands.a c.commands.used c.commands.invariant.2 c.commands-test.true c.if-used-code.true
+pub covers_command-returns-else-covers_commands-3 :
+    goal.covers_command-returns-else-covers_commands-3
+covers_command-returns-else-covers_commands-3 t c =
+    elim c.if-redirects-eq0-4.branch [
+      | covers_command-then-redirects-eq0-4 v ↦ while_condition c.args.code.text.now c.args.code.words.now c.args.at c.args.left c.in-Some.left (omega arith) c.in-While.condition c.in-While.body c.in-While.redirects (subst (CommandIs c.args.code.text.now c.args.code.words.now c.args.at) c.in-While.is c.in-Some-command.ensures) v.covers_commands-then-redirects-eq0-4.result c.if-redirects-eq0-4.value v.covers_commands-then-redirects-eq0-4.ensures (cc) (cc)
+      | covers_command-else-redirects-eq0-4 v ↦ while_no c.args.code.text.now c.args.code.words.now c.args.at c.args.left c.in-Some.left (omega arith) c.in-While.condition c.in-While.body c.in-While.redirects (subst (CommandIs c.args.code.text.now c.args.code.words.now c.args.at) c.in-While.is c.in-Some-command.ensures) c.if-redirects-eq0-4.value v.if-redirects-eq0-4.false (cc)
+    ]
 
-pub covers_commands-returns-then-word-ne0 : goal.covers_commands-returns-then-word-ne0
-covers_commands-returns-then-word-ne0 t c = list_background c.args.text.now c.args.code.now c.args.root c.args.left c.commands.a c.commands.used c.word.result c.commands.invariant.2 c.commands-test.true c.word.ensures c.if-word-ne0.true
+pub covers_command-returns-in_default-command : goal.covers_command-returns-in_default-command
+covers_command-returns-in_default-command t c = other c.args.code.text.now c.args.code.words.now c.args.at c.args.left (λ e. omega arith) (λ e. omega arith) (λ e. omega arith) (λ e. omega arith)
 
-pub covers_commands-returns-then-not-covers_and_or : goal.covers_commands-returns-then-not-covers_and_or
-covers_commands-returns-then-not-covers_and_or t c = list_no c.args.text.now c.args.code.now c.args.root c.args.left c.commands.a c.commands.used c.word-in-commands.result c.covers_and_or.result c.commands.invariant.2 c.commands-test.true c.word-in-commands.ensures c.covers_and_or.ensures c.if-not-covers_and_or.true
+pub covers_command-returns-in_default-command-2 : goal.covers_command-returns-in_default-command-2
+covers_command-returns-in_default-command-2 t c = other_cell c.args.code.text.now c.args.code.words.now c.args.at c.args.left c.in-Some-command.command c.in-Some-command.ensures c.in_default-command-2.not-Simple c.in_default-command-2.not-Group c.in_default-command-2.not-If c.in_default-command-2.not-While
 
-pub covers_commands-commands-preserved : goal.covers_commands-commands-preserved
-covers_commands-commands-preserved t c = (c.word-a.type_inv, omega arith, list_more c.args.text.now c.args.code.now c.args.root c.args.left c.commands.a c.commands.used c.word-a.result c.word.result c.word-in-commands.result c.covers_and_or.result c.commands.invariant.2 c.commands-test.true c.word.ensures c.if-word-ne0.false c.word-in-commands.ensures c.covers_and_or.ensures c.if-not-covers_and_or.false c.word-a.ensures)
+pub covers_commands-loop-at-init : goal.covers_commands-loop-at-init
+covers_commands-loop-at-init t c = record {
+  can_next = tt;
+  is_finite = tt;
+  walk = λ x. list_start c.args.code.text.now c.args.code.words.now c.args.root c.args.left (links_of c.into_iter-at-iterator.result) x (cc);
+}
+
+pub covers_commands-returns-then-item : goal.covers_commands-returns-then-item
+covers_commands-returns-then-item t c = λ x h d. elim c.then-item.branch [
+  | covers_commands-then-item-via-then-item w ↦ list_background c.args.code.text.now c.args.code.words.now c.in-Some.at c.args.left c.item-item.result (links_of c.loop-at.at-iterator) (links_of c.next.new.self) x c.item-item.ensures c.in-Some.ensures.steps w.if-item.true (c.loop-at.invariant.walk x h d)
+  | covers_commands-then-item-via-else-item+then-not-covers_and_or w ↦ list_no c.args.code.text.now c.args.code.words.now c.in-Some.at c.args.left c.item-item.result w.covers_and_or.result (links_of c.loop-at.at-iterator) (links_of c.next.new.self) x c.item-item.ensures c.in-Some.ensures.steps w.covers_and_or.ensures (cc) (c.loop-at.invariant.walk x h d)
+]
+
+pub covers_commands-loop-at-preserved : goal.covers_commands-loop-at-preserved
+covers_commands-loop-at-preserved t c = record {
+  can_next = tt;
+  is_finite = tt;
+  walk = λ x h d. list_more c.args.code.text.now c.args.code.words.now c.in-Some.at c.args.left c.item-item.result c.covers_and_or.result (links_of c.loop-at.at-iterator) (links_of c.next.new.self) x c.item-item.ensures c.in-Some.ensures.steps c.if-item.false c.covers_and_or.ensures (cc) (c.loop-at.invariant.walk x h d);
+}
 
 pub covers_commands-returns : goal.covers_commands-returns
-covers_commands-returns t c = list_end c.args.text.now c.args.code.now c.args.root c.args.left c.commands.a c.commands.used c.commands.invariant.2 c.commands-test.false
+covers_commands-returns t c = λ x h d. list_end c.args.code.text.now c.args.code.words.now c.args.left (links_of c.loop-at.at-iterator) x c.in-None.ensures.steps.0 (c.loop-at.invariant.walk x h d)
 
-pub covers_else-returns-then-a-eq0 : goal.covers_else-returns-then-a-eq0
-covers_else-returns-then-a-eq0 t c = else_none c.args.text.now c.args.code.now c.args.a c.args.left c.if-a-eq0.true
+pub covers_else-returns-then-at-eq0 : goal.covers_else-returns-then-at-eq0
+covers_else-returns-then-at-eq0 t c = λ x h d. eq-eqb c.args.at 0 c.if-at-eq0.true ∙ else_none c.args.code.text.now c.args.code.words.now c.args.at c.args.left c.if-at-eq0.true x h d
 
-pub covers_else-returns : goal.covers_else-returns
-covers_else-returns t c = else_list c.args.text.now c.args.code.now c.args.a c.args.left c.word.result c.covers_commands.result c.if-a-eq0.false c.word.ensures c.covers_commands.ensures
+pub covers_else-returns-else-at-eq0 : goal.covers_else-returns-else-at-eq0
+covers_else-returns-else-at-eq0 t c = else_some c.args.code.text.now c.args.code.words.now c.args.at c.args.left c.word.result c.covers_commands.result c.if-at-eq0.false c.word.ensures c.covers_commands.ensures
 
-pub covers_group-returns-then-word-ne0 : goal.covers_group-returns-then-word-ne0
-covers_group-returns-then-word-ne0 t c = group_redirects c.args.text.now c.args.code.now c.args.a c.args.left c.word.result c.word.ensures c.if-word-ne0.true
+pub covers_pipeline-returns-then-word-eq0 : goal.covers_pipeline-returns-then-word-eq0
+covers_pipeline-returns-then-word-eq0 t c = pipeline_yes c.args.code.text.now c.args.code.words.now c.args.at c.args.left c.word.result c.covers_command.result c.word.ensures c.if-word-eq0.true c.covers_command.ensures
 
-pub covers_group-returns : goal.covers_group-returns
-covers_group-returns t c = group_list c.args.text.now c.args.code.now c.args.a c.args.left c.word.result c.word-2.result c.covers_commands.result c.word.ensures c.if-word-ne0.false c.word-2.ensures c.covers_commands.ensures
-
-pub covers_if-returns-then-word-ne0 : goal.covers_if-returns-then-word-ne0
-covers_if-returns-then-word-ne0 t c = if_redirects c.args.text.now c.args.code.now c.args.a c.args.left c.word.result c.word.ensures c.if-word-ne0.true
-
-pub covers_if-returns-then-not-covers_commands : goal.covers_if-returns-then-not-covers_commands
-covers_if-returns-then-not-covers_commands t c = if_condition c.args.text.now c.args.code.now c.args.a c.args.left c.word-2.result c.covers_commands.result c.word-2.ensures c.covers_commands.ensures c.if-not-covers_commands.true
-
-pub covers_if-returns-then-not-covers_commands-2 : goal.covers_if-returns-then-not-covers_commands-2
-covers_if-returns-then-not-covers_commands-2 t c = if_then c.args.text.now c.args.code.now c.args.a c.args.left c.word-2.result c.word-3.result c.covers_commands.result c.covers_commands-2.result c.word-2.ensures c.covers_commands.ensures c.if-not-covers_commands.false c.word-3.ensures c.covers_commands-2.ensures c.if-not-covers_commands-2.true
-
-pub covers_if-returns : goal.covers_if-returns
-covers_if-returns t c = if_else c.args.text.now c.args.code.now c.args.a c.args.left c.word.result c.word-2.result c.word-3.result c.word-4.result c.covers_commands.result c.covers_commands-2.result c.covers_else.result c.word.ensures c.if-word-ne0.false c.word-2.ensures c.covers_commands.ensures c.if-not-covers_commands.false c.word-3.ensures c.covers_commands-2.ensures c.if-not-covers_commands-2.false c.word-4.ensures c.covers_else.ensures
-
-pub covers_pipeline-returns-then-word-ne0 : goal.covers_pipeline-returns-then-word-ne0
-covers_pipeline-returns-then-word-ne0 t c = pipeline_piped c.args.text.now c.args.code.now c.args.a c.args.left c.word.result c.word.ensures c.if-word-ne0.true
-
-pub covers_pipeline-returns : goal.covers_pipeline-returns
-covers_pipeline-returns t c = pipeline_single c.args.text.now c.args.code.now c.args.a c.args.left c.word.result c.covers_command.result c.word.ensures c.if-word-ne0.false c.covers_command.ensures
-
-pub covers_while-returns-then-word-ne0 : goal.covers_while-returns-then-word-ne0
-covers_while-returns-then-word-ne0 t c = while_redirects c.args.text.now c.args.code.now c.args.a c.args.left c.word.result c.word.ensures c.if-word-ne0.true
-
-pub covers_while-returns-then-not-covers_commands : goal.covers_while-returns-then-not-covers_commands
-covers_while-returns-then-not-covers_commands t c = while_condition c.args.text.now c.args.code.now c.args.a c.args.left c.word-2.result c.covers_commands.result c.word-2.ensures c.covers_commands.ensures c.if-not-covers_commands.true
-
-pub covers_while-returns : goal.covers_while-returns
-covers_while-returns t c = while_body c.args.text.now c.args.code.now c.args.a c.args.left c.word.result c.word-2.result c.word-3.result c.covers_commands.result c.covers_commands-2.result c.word.ensures c.if-word-ne0.false c.word-2.ensures c.covers_commands.ensures c.if-not-covers_commands.false c.word-3.ensures c.covers_commands-2.ensures
+pub covers_pipeline-returns-else-word-eq0 : goal.covers_pipeline-returns-else-word-eq0
+covers_pipeline-returns-else-word-eq0 t c = λ p h d. ne_eqb c.word.result 0 c.if-word-eq0.false ∙ pipeline_no c.args.code.text.now c.args.code.words.now c.args.at c.args.left c.word.result c.word.ensures c.if-word-eq0.false p h d
