@@ -1,10 +1,8 @@
 -- Two segments that change places, and one that is new.
-use Rattle.std.proofs.Common.{◌≡◌, ℕ, ◌+◌, ◌-◌, ◌*◌, ◌<◌, ◌≤◌, ◌≢◌, ◌⊎◌, List, [], ◌∷◌, ◌++◌, length, get_or, take, drop, set, sym, refl, ap, ◌∙◌, ap₂, inl, inr, ⊎_elim, arith}
-use Rattle.std.proofs.lemmas.List.{ext_get_or, length-set, get_or-set_same, get_or-set_other}
+use Rattle.std.proofs.Common.{◌≡◌, ℕ, ◌+◌, ◌*◌, ◌<◌, ◌≤◌, ◌≢◌, ◌⊎◌, List, [], ◌∷◌, ◌++◌, length, take, drop, refl, ap, ◌∙◌, ap₂, inl, inr, ⊎_elim, arith}
 use Rattle.std.proofs.lemmas.Bool.{cases_eq}
-use Rattle.segments.specs.Layout.{field, filed, start, size, room, mark, seg, segs, Good, tense, Exchanged, Opened, Marked}
-use Rattle.segments.proofs.Table.{length_filed, field_same, field_part, field_other, drop_filed, seg_same, segs_at, length_segs, segs_same, segs_more}
-use Rattle.segments.proofs.Upto.{upto_two}
+use Rattle.segments.specs.Layout.{field, filed, start, size, room, mark, seg, Good, Exchanged, Opened, Marked}
+use Rattle.segments.proofs.Table.{length_filed, field_same, field_part, field_other, drop_filed, seg_same, segs_same, segs_more}
 
 abbrev pub traded : List ℕ → ℕ → ℕ → ℕ → List ℕ
 traded w i j c = filed (filed w i c (field w j c)) j c (field w i c)
@@ -123,35 +121,17 @@ module _ (w : List ℕ) (n i j : ℕ) (g : Good w n) (h : i < n) (m : j < n) (ne
   swapped_seg : (k to : ℕ) → to < n → start swapped k ≡ start w to → size swapped k ≡ size w to → seg swapped k ≡ seg w to
   swapped_seg k to tn p q = seg_same w swapped k to p q (ap (take (size w to)) (swapped_drop (start w to) (g.above to tn)))
 
-  swapped_after : segs swapped n ≡ set (set (segs w n) i (get_or (segs w n) j [])) j (get_or (segs w n) i [])
-  unfolding row_j row_i
-  swapped_after =
-      let S = segs w n in
-      let ls = length_segs w n in
-      let x = get_or S j [] in
-      let y = get_or S i [] in
-      ext_get_or [] (segs swapped n) (set (set S i x) j y) (length_segs swapped n ∙ sym (length-set (set S i x) j y ∙ length-set S i x ∙ ls))
-      (λ k lt. let kn : k < n = omega (arith, length_segs swapped n) in segs_at swapped n k kn ∙ ⊎_elim
-      (λ (q : k ≡ j). rw q (swapped_seg j i h row_j.starts row_j.sizes ∙ sym (get_or-set_same (set S i x) j y [] (omega (arith, ls, length-set S i x)) ∙ segs_at w n i h)))
-      (λ (q : k ≢ j). ⊎_elim
-      (λ (p : k ≡ i). rw p (swapped_seg i j m row_i.starts row_i.sizes ∙
-      sym (get_or-set_other (set S i x) j i y [] ne ∙ get_or-set_same S i x [] (omega (arith, ls)) ∙ segs_at w n j m)))
-      (λ (p : k ≢ i). swapped_seg k k kn (at_start k k (traded_other w i j 0 (omega arith) k 0 (omega arith) p q)) (at_size k k (traded_other one i j 2 (omega arith) k 2 (omega arith) p q)) ∙
-      sym (get_or-set_other (set S i x) j k y [] q ∙ get_or-set_other S i k x [] p ∙ segs_at w n k kn))
-      (cases_eq k i))
-      (cases_eq k j))
-
   pub swapped_is : Exchanged w swapped n i j
   unfolding row_i row_j
   swapped_is =
       record {
         good = swapped_good;
-        after = swapped_after;
-        strained = upto_two (tense w) (tense swapped) n i j h m ne
-            (ap₂ (λ (a b : ℕ). 5 * a - (4 * b + 3)) row_i.sizes row_i.rooms) (ap₂ (λ (a b : ℕ). 5 * a - (4 * b + 3)) row_j.sizes row_j.rooms)
-            (λ k kn p q. ap₂ (λ (a b : ℕ). 5 * a - (4 * b + 3)) (at_size k k (traded_other one i j 2 (omega arith) k 2 (omega arith) p q))
-            (at_room k k (traded_other two i j 4 (omega arith) k 4 (omega arith) p q)));
-        within = λ lo u f k z kn. let r = row k kn in rw (r.starts, r.rooms) (f r.to (omega arith) r.lt);
+        left = (row_i.starts, row_i.rooms, swapped_seg i j m row_i.starts row_i.sizes);
+        right = (row_j.starts, row_j.rooms, swapped_seg j i h row_j.starts row_j.sizes);
+        others = λ k kn p q.
+            let s = at_start k k (traded_other w i j 0 (omega arith) k 0 (omega arith) p q) in
+            let z = at_size k k (traded_other one i j 2 (omega arith) k 2 (omega arith) p q) in
+            (s, at_room k k (traded_other two i j 4 (omega arith) k 4 (omega arith) p q), swapped_seg k k kn s z);
         used = λ k kn. traded_part two i j 4 (omega arith) k 6 (omega arith) (inl (omega arith)) ∙ traded_part one i j 2 (omega arith) k 6 (omega arith) (inl (omega arith)) ∙
             traded_part w i j 0 (omega arith) k 6 (omega arith) (inl (omega arith));
       }

@@ -1,11 +1,11 @@
 -- All segments are moved, one before another.
-use Rattle.std.proofs.Common.{◌≡◌, ℕ, ◌+◌, ◌-◌, ◌*◌, ◌/◌, ◌<◌, ◌≤◌, ◌≢◌, ◌⊎◌, List, [], ◌∷◌, length, get_or, take, set, sym, refl, ap, ◌∙◌, inl, inr, ⊎_elim, arith}
-use Rattle.std.proofs.lemmas.List.{get_or_past}
+use Rattle.std.proofs.Common.{◌≡◌, ℕ, ◌+◌, ◌-◌, ◌*◌, ◌/◌, ◌<◌, ◌≤◌, ◌≢◌, ◌⊎◌, List, [], ◌∷◌, length, get_or, take, set, refl, ap, ◌∙◌, inl, inr, ⊎_elim, arith}
+use Rattle.std.proofs.lemmas.List.{get_or_past, length-set}
 use Rattle.std.proofs.lemmas.List.Sums.{sum_by-cons, sum_by_more, sum_by-take-le, sum_by-set, get_or-le-sum_by}
 use Rattle.std.proofs.lemmas.Bool.{cases_eq, cases_lt}
-use Rattle.segments.specs.Layout.{size, room, segs, Good, Within, Free, Moved, need, spread}
-use Rattle.segments.proofs.Table.{length_segs}
-use Rattle.segments.proofs.SegmentLaws.{len_is}
+use Rattle.segments.specs.Layout.{need, spread}
+use Rattle.segments.specs.Table.{Table, nth, segs, Within, Free, moved}
+use Rattle.segments.proofs.Placed.{nth_same, nth_other, segs_at, length_segs, words_same}
 
 -- how many words there are
 pub need_set : (xs : List (List ℕ)) (i : ℕ) (y : List ℕ) → i < length xs → need (set xs i y) + length (get_or xs i []) ≡ need xs + length y
@@ -41,44 +41,42 @@ unfolding spread
 spread_none xs = refl
 
 -- a turn, at segment k, which goes from a to b, with room r
-module _ (w : List ℕ) (n lo hi to k a r : ℕ) (xs : List (List ℕ)) (g : Good w n) (e : segs w n ≡ xs) (h : k < n)
-    (early : Within w 0 k a to) (late : Within w k n lo hi) (p : a + spread (take k xs) ≡ to) (out : (hi + spread xs ≤ to) ⊎ (to ≤ lo))
-    (fit : 8 * n + spread xs ≤ to) (q : r ≡ size w k + size w k / 4) where
+module _ (t : Table) (lo hi to k a r : ℕ) (xs : List (List ℕ)) (e : segs t ≡ xs) (h : k < length t.segments)
+    (early : (i : ℕ) → i < k → (a ≤ (nth t i).start) × ((nth t i).start + (nth t i).room ≤ to)) (late : Within t k lo hi) (p : a + spread (take k xs) ≡ to)
+    (out : (hi + spread xs ≤ to) ⊎ (to ≤ lo)) (fit : 8 * length t.segments + spread xs ≤ to) (q : r ≡ length (nth t k).words + length (nth t k).words / 4) where
   turn_more : spread (take (k + 1) xs) ≡ spread (take k xs) + r
   turn_more =
-      let l : length (get_or xs k []) ≡ size w k = rw (← e) (sym (len_is w n g k h)) in
+      let l : get_or xs k [] ≡ (nth t k).words = rw (← e) (segs_at t k) in
       spread_more xs k (rw (← e, length_segs) h) ∙ rw (l, q) refl
 
-  pub turn_room : 8 * n + r ≤ a
+  pub turn_room : 8 * length t.segments + r ≤ a
   turn_room = omega (arith, turn_more, spread_upto xs (k + 1))
 
   pub turn_next : (a - r) + spread (take (k + 1) xs) ≡ to
   turn_next = omega (arith, turn_more, turn_room)
 
-  pub turn_free : Free w n (a - r) ((a - r) + r)
+  pub turn_free : Free t (a - r) ((a - r) + r)
   turn_free j jn = ⊎_elim
-      (λ (z : j < k). inl (omega (arith, (early j (omega arith) z).0, turn_room)))
+      (λ (z : j < k). inl (omega (arith, (early j z).0, turn_room)))
       (λ (z : k ≤ j). ⊎_elim
       (λ (o : hi + spread xs ≤ to). inr (omega (arith, (late j z jn).1, turn_next, spread_upto xs (k + 1))))
       (λ (o : to ≤ lo). inl (omega (arith, (late j z jn).0, turn_room)))
       out)
       (cases_lt j k)
 
-  module _ (w' : List ℕ) (m : Moved w w' n k (a - r) r) where
-    pub turn_early : Within w' 0 (k + 1) (a - r) to
-    turn_early j z jk = ⊎_elim
-        (λ (s : j ≡ k). rw (s, m.place.0, m.place.1) (omega arith, omega (arith, turn_room)))
-        (λ (s : j ≢ k). let jn : j < n = omega arith in let y = early j z (omega arith) in
-        rw ((m.others j jn s).0, (m.others j jn s).1) (omega (arith, y.0), y.1))
+  pub turn_early : (i : ℕ) → i < k + 1 → (a - r ≤ (nth (moved t k (a - r) r) i).start) × ((nth (moved t k (a - r) r) i).start + (nth (moved t k (a - r) r) i).room ≤ to)
+  turn_early j jk = ⊎_elim
+      (λ (s : j ≡ k). rw (s, nth_same t k _ h) (omega arith, omega (arith, turn_room)))
+      (λ (s : j ≢ k). let y = early j (omega arith) in rw (nth_other t k j _ s) (omega (arith, y.0), y.1))
+      (cases_eq j k)
+
+  pub turn_late : Within (moved t k (a - r) r) (k + 1) lo hi
+  turn_late j z jn = let s : j ≢ k = omega arith in rw (nth_other t k j _ s) (late j (omega arith) (rw length-set at jn))
+
+  -- what the rooms are, from the words that u has
+  module _ (u : Table) (same : segs t ≡ segs u) (rooms : (i : ℕ) → i < k → (nth t i).room ≡ length (nth u i).words + length (nth u i).words / 4) where
+    pub turn_rooms : (i : ℕ) → i < k + 1 → (nth (moved t k (a - r) r) i).room ≡ length (nth u i).words + length (nth u i).words / 4
+    turn_rooms j jk = ⊎_elim
+        (λ (s : j ≡ k). rw (s, nth_same t k _ h) (q ∙ ap (λ (x : List ℕ). length x + length x / 4) (words_same t u k same)))
+        (λ (s : j ≢ k). rw (nth_other t k j _ s) (rooms j (omega arith)))
         (cases_eq j k)
-
-    pub turn_late : Within w' (k + 1) n lo hi
-    turn_late j z jn = let s : j ≢ k = omega arith in rw ((m.others j jn s).0, (m.others j jn s).1) (late j (omega arith) jn)
-
-    -- what the sizes and rooms are, from what they were in v
-    module _ (v : List ℕ) (sizes : (j : ℕ) → j < n → size w j ≡ size v j) (rooms : (j : ℕ) → j < k → room w j ≡ size v j + size v j / 4) where
-      pub turn_rooms : (j : ℕ) → j < k + 1 → room w' j ≡ size v j + size v j / 4
-      turn_rooms j jk = ⊎_elim
-          (λ (s : j ≡ k). rw (s) (m.place.1 ∙ q ∙ ap (λ (x : ℕ). x + x / 4) (sizes k h)))
-          (λ (s : j ≢ k). (m.others j (omega arith) s).1 ∙ rooms j (omega arith))
-          (cases_eq j k)

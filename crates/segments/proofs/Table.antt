@@ -1,9 +1,9 @@
 -- The table: what an entry says after a write, and the segments that it tells of.
-use Rattle.std.proofs.Common.{◌≡◌, ℕ, ◌+◌, ◌*◌, ◌<◌, ◌≤◌, false, eqb, ◌≢◌, ◌⊎◌, List, [], ◌∷◌, ◌++◌, length, get_or, take, drop, set, sym, ap, ◌∙◌, ⊎_elim, arith}
+use Rattle.std.proofs.Common.{◌≡◌, ℕ, ◌+◌, ◌*◌, ◌<◌, ◌≤◌, ◌≢◌, ◌⊎◌, List, [], ◌∷◌, ◌++◌, length, get_or, take, drop, set, sym, ◌∙◌, ⊎_elim, arith}
 use Rattle.std.proofs.lemmas.List.{get_or-set_same, get_or-set_other, length-set, ext_get_or, get_or_past}
 use Rattle.std.proofs.lemmas.List.FromFn.{get_or-map-range_with_len, length-map-range_with_len, map-range_with_len_more}
 use Rattle.std.proofs.lemmas.Bool.{cases_eq}
-use Rattle.segments.specs.Layout.{field, filed, start, size, mark, seg, segs, marks}
+use Rattle.segments.specs.Layout.{field, filed, start, size, seg, segs}
 use Rattle.segments.proofs.WordLaws.{length_put64, at64_put_same, at64_put_other, at64_front, drop_put64}
 
 pub length_filed : (w : List ℕ) (i c v : ℕ) → length (filed w i c v) ≡ length w
@@ -75,20 +75,3 @@ segs_same w w' n f =
 pub segs_more : (w : List ℕ) (n : ℕ) → segs w (n + 1) ≡ segs w n ++ (seg w n ∷ [])
 unfolding segs
 segs_more w n = map-range_with_len_more (seg w) 0 n n (omega arith)
-
--- the same of the marks
-pub marks_at : (w : List ℕ) (n i : ℕ) → i < n → get_or (marks w n) i false ≡ eqb (mark w i) 1
-unfolding marks
-marks_at w n i h = get_or-map-range_with_len (λ k. eqb (mark w k) 1) 0 n i i false h (omega arith)
-
-pub length_marks : (w : List ℕ) (n : ℕ) → length (marks w n) ≡ n
-unfolding marks
-length_marks w n = length-map-range_with_len (λ k. eqb (mark w k) 1) 0 n
-
-pub marks_past : (w : List ℕ) (n i : ℕ) → n ≤ i → get_or (marks w n) i false ≡ false
-marks_past w n i h = get_or_past (marks w n) i false (omega (arith, length_marks w n))
-
-pub marks_same : (w w' : List ℕ) (n : ℕ) → ((k : ℕ) → k < n → mark w' k ≡ mark w k) → marks w' n ≡ marks w n
-marks_same w w' n f =
-    ext_get_or false (marks w' n) (marks w n) (length_marks w' n ∙ sym (length_marks w n))
-    (λ k lt. let m : k < n = omega (arith, length_marks w' n) in rw (marks_at w' n k m, marks_at w n k m) (ap (λ (x : ℕ). eqb x 1) (f k m)))

@@ -1,7 +1,7 @@
 -- Sums over the first numbers.
 use Rattle.std.proofs.Common.{◌≡◌, ℕ, zero, suc, ◌+◌, ◌<◌, ◌≤◌, cond, eqb, ◌≢◌, sym, refl, ◌∙◌, ap₂, ⊎_elim, add-one, arith}
 use Rattle.std.proofs.lemmas.Bool.{cases_eq, cond-true, cond-false, eq-eqb, ne_eqb}
-use Rattle.segments.specs.Layout.{upto}
+use Rattle.segments.specs.Table.{upto}
 
 module _ (f g : ℕ → ℕ) where
   pub upto_same : (n : ℕ) → ((k : ℕ) → k < n → g k ≡ f k) → upto g n ≡ upto f n

@@ -1,6 +1,7 @@
 -- Numbers in two words, and stretches of words.
-use Rattle.std.proofs.Common.{◌≡◌, ℕ, ◌+◌, ◌-◌, ◌*◌, ◌/◌, ◌%◌, ◌<◌, ◌≤◌, ◌≢◌, ◌⊎◌, List, [], ◌∷◌, length, get_or, take, drop, set, sym, ap, ◌∙◌, ap₂, inl, inr, ⊎_elim, arith}
-use Rattle.std.proofs.lemmas.List.{get_or-set_same, get_or-set_other, length-set, length-take-le, length-drop, get_or-take, get_or-drop, take-set-le, drop-set-lt, drop-set-add, take_more, take_more_set, take-take, drop-take, drop-drop, drop-set}
+use Rattle.std.proofs.Common.{◌≡◌, ℕ, ◌+◌, ◌-◌, ◌*◌, ◌/◌, ◌%◌, ◌<◌, ◌≤◌, ◌≢◌, ◌⊎◌, List, [], ◌∷◌, ◌++◌, append_assoc, length, get_or, take, drop, set, sym, ap, ◌∙◌, ap₂, inl, inr, arith}
+use Rattle.std.proofs.Math.Seq.{take-append_seam, drop-append_seam}
+use Rattle.std.proofs.lemmas.List.{length-append, get_or-set_same, get_or-set_other, length-set, length-take-le, length-drop, get_or-take, take-set-le, drop-set-lt, take-take, drop-take, drop-drop, drop-set}
 use Rattle.std.proofs.lemmas.Nat.{div-add-mod'}
 use Rattle.segments.specs.Words.{at64, put64, Written}
 
@@ -62,35 +63,21 @@ pub part_written : (w w' : List ℕ) (to : ℕ) (xs : List ℕ) (s m : ℕ) → 
 part_written w w' to xs s m e (inl h) = part_front w w' to s m e.front h
 part_written w w' to xs s m e (inr h) = ap (take m) (drop_same w w' (to + length xs) s e.back h)
 
--- a step of a copy
-module _ (w w' : List ℕ) (at to len j : ℕ) (out : (at + len ≤ to) ⊎ (to + len ≤ at)) (jl : j < len) (l : to + j < length w') (al : at + j < length w)
-    (front : take to w' ≡ take to w) (mid : take j (drop to w') ≡ take j (drop at w)) (back : drop (to + j) w' ≡ drop (to + j) w) where
-  copy_word : get_or w' (at + j) 0 ≡ get_or w (at + j) 0
-  copy_word = ⊎_elim
-      (λ (q : at + len ≤ to). let p : at + j < to = omega arith in
-      sym (get_or-take to w' (at + j) 0 p) ∙ ap (λ (x : List ℕ). get_or x (at + j) 0) front ∙ get_or-take to w (at + j) 0 p)
-      (λ (q : to + len ≤ at). let p : to + j + (at - to) ≡ at + j = omega arith in
-      rw p at (sym (get_or-drop (to + j) w' (at - to) 0) ∙ ap (λ (x : List ℕ). get_or x (at - to) 0) back ∙ get_or-drop (to + j) w (at - to) 0))
-      out
-
-  pub copy_front : take to (set w' (to + j) (get_or w' (at + j) 0)) ≡ take to w
-  copy_front = take-set-le to w' (to + j) (get_or w' (at + j) 0) (omega arith) ∙ front
-
-  pub copy_mid : take (j + 1) (drop to (set w' (to + j) (get_or w' (at + j) 0))) ≡ take (j + 1) (drop at w)
-  copy_mid =
-      let a : j < length (drop to w') = simp length-drop (omega arith) in
-      let b : j < length (drop at w) = simp length-drop (omega arith) in
-      rw (drop-set-add, take_more_set (drop to w') j (get_or w' (at + j) 0) a, take_more (drop at w) j 0 b, get_or-drop at w j 0, mid, copy_word)
-
-  pub copy_back : drop (to + (j + 1)) (set w' (to + j) (get_or w' (at + j) 0)) ≡ drop (to + (j + 1)) w
-  copy_back = drop-set-lt (to + (j + 1)) w' (to + j) (get_or w' (at + j) 0) (omega arith) ∙ drop_same w w' (to + j) (to + (j + 1)) back (omega arith)
-
-pub copy_all : (w w' : List ℕ) (at to len : ℕ) → at + len ≤ length w → length w' ≡ length w →
-    take to w' ≡ take to w → take len (drop to w') ≡ take len (drop at w) → drop (to + len) w' ≡ drop (to + len) w → Written w w' to (take len (drop at w))
-copy_all w w' at to len h l front mid back =
-    let a : len ≤ length (drop at w) = simp length-drop (omega arith) in
-    let b : length (take len (drop at w)) ≡ len = length-take-le len (drop at w) a in
-    record { len = l; front = front; mid = rw b mid; back = rw b back }
+-- words that are copied
+pub copied_words : (w : List ℕ) (at to len : ℕ) → at + len ≤ length w → to + len ≤ length w →
+    Written w (take to w ++ take len (drop at w) ++ drop (to + len) w) to (take len (drop at w))
+copied_words w at to len a b =
+    let x = take to w in
+    let y = take len (drop at w) in
+    let z = drop (to + len) w in
+    let lx : length x ≡ to = length-take-le to w (omega arith) in
+    let ly : length y ≡ len = length-take-le len (drop at w) (simp length-drop (omega arith)) in
+    record {
+      len = simp (length-append, length-drop) (omega (arith, lx, ly));
+      front = rw append_assoc (rw lx at (take-append_seam x (y ++ z)));
+      mid = let e : drop to (x ++ (y ++ z)) ≡ y ++ z = rw lx at (drop-append_seam x (y ++ z)) in rw (append_assoc, e) (take-append_seam y z);
+      back = let e : length (x ++ y) ≡ to + length y = simp length-append (omega (arith, lx)) in rw e at (drop-append_seam (x ++ y) z) ∙ rw ly;
+    }
 
 pub word_written : (w : List ℕ) (to v : ℕ) → to < length w → Written w (set w to v) to (v ∷ [])
 word_written w to v h =

@@ -1,7 +1,17 @@
 -- Segments of growable length in a list of words. In front a table, eight words for each.
-use Rattle.std.specs.Prelude.{◌≡◌, ℕ, zero, suc, ◌+◌, ◌-◌, ◌*◌, ◌/◌, ◌<◌, ◌≤◌, Bool, ◌≢◌, ◌⊎◌, List, [], ◌∷◌, ◌++◌, map, length, take, drop, sum_by, nat_eq, slice_index_or, slice_set}
+use Rattle.std.specs.Prelude.{◌≡◌, ℕ, ◌+◌, ◌*◌, ◌/◌, ◌<◌, ◌≤◌, ◌≢◌, ◌⊎◌, List, [], ◌∷◌, ◌++◌, map, length, take, drop, sum_by, nat_eq, slice_set}
 use Rattle.std.specs.List.{range_with_len}
 use Rattle.segments.specs.Words.{at64, put64}
+use Rattle.segments.specs.Table.{Segment, Table}
+use Rattle.segments.specs.declared.Part.{Part}
+use Rattle.segments.specs.declared.Part.TheVariants.{Start, Size, Room, Mark}
+
+-- where a part of an entry stands
+abbrev pub place : Part → ℕ
+place Start = 0
+place Size = 2
+place Room = 4
+place Mark = 6
 
 -- the number at c of the table's entry i
 unfoldable pub field : List ℕ → ℕ → ℕ → ℕ
@@ -30,10 +40,6 @@ seg w i = take (size w i) (drop (start w i) w)
 unfoldable pub segs : List ℕ → ℕ → List (List ℕ)
 segs w n = map (seg w) (range_with_len 0 n)
 
--- which segments are in use
-unfoldable pub marks : List ℕ → ℕ → List Bool
-marks w n = map (λ i. nat_eq (mark w i) 1) (range_with_len 0 n)
-
 pub record Good (w : List ℕ) (n : ℕ) : Type 0 where
   pub table : 8 * n ≤ length w
   pub fits : (i : ℕ) → i < n → size w i ≤ room w i
@@ -41,24 +47,9 @@ pub record Good (w : List ℕ) (n : ℕ) : Type 0 where
   pub below : (i : ℕ) → i < n → start w i + room w i ≤ length w
   pub apart : (i j : ℕ) → i < n → j < n → j ≢ i → (start w i + room w i ≤ start w j) ⊎ (start w j + room w j ≤ start w i)
 
--- the segments from k up to n lie in the words from lo up to u
-abbrev pub Within : List ℕ → ℕ → ℕ → ℕ → ℕ → Type 0
-Within w k n lo u = (i : ℕ) → k ≤ i → i < n → (lo ≤ start w i) × (start w i + room w i ≤ u)
-
 -- no segment lies in the words from lo up to u
 abbrev pub Free : List ℕ → ℕ → ℕ → ℕ → Type 0
 Free w n lo u = (k : ℕ) → k < n → (u ≤ start w k) ⊎ (start w k + room w k ≤ lo)
-
--- How far a segment is into the last fifth of its room, for all of them together: what was paid in for the next move of it.
-abbrev pub tense : List ℕ → ℕ → ℕ
-tense w k = 5 * size w k - (4 * room w k + 3)
-
-unfoldable pub upto : (ℕ → ℕ) → ℕ → ℕ
-upto f zero = 0
-upto f (suc n) = upto f n + f n
-
-abbrev pub strain : List ℕ → ℕ → ℕ
-strain w n = upto (tense w) n
 
 -- segment i is now x, and nothing else has changed
 pub record Changed (w w' : List ℕ) (n i : ℕ) (x : List ℕ) : Type 0 where
@@ -83,12 +74,12 @@ need xs = sum_by length xs
 unfoldable pub spread : List (List ℕ) → ℕ
 spread xs = sum_by (λ x. length x + length x / 4) xs
 
--- segments i and j have changed places
+-- segment i is now what j was, and j what i was; nothing else has changed
 pub record Exchanged (w w' : List ℕ) (n i j : ℕ) : Type 0 where
   pub good : Good w' n
-  pub after : segs w' n ≡ slice_set (slice_set (segs w n) i (slice_index_or (segs w n) j [])) j (slice_index_or (segs w n) i [])
-  pub within : (lo u : ℕ) → Within w 0 n lo u → Within w' 0 n lo u
-  pub strained : strain w' n ≡ strain w n
+  pub left : (start w' i ≡ start w j) × (room w' i ≡ room w j) × (seg w' i ≡ seg w j)
+  pub right : (start w' j ≡ start w i) × (room w' j ≡ room w i) × (seg w' j ≡ seg w i)
+  pub others : (k : ℕ) → k < n → k ≢ i → k ≢ j → (start w' k ≡ start w k) × (room w' k ≡ room w k) × (seg w' k ≡ seg w k)
   pub used : (k : ℕ) → k < n → mark w' k ≡ mark w k
 
 -- segment n is there now, with nothing in it, and in use
@@ -111,9 +102,9 @@ pub record Marked (w w' : List ℕ) (n i v : ℕ) : Type 0 where
   pub here : mark w' i ≡ v
   pub others : (k : ℕ) → k < n → k ≢ i → mark w' k ≡ mark w k
 
--- segment i is not in use any more, and the table ends behind the last that is
-pub record Retired (w w' : List ℕ) (n i m : ℕ) : Type 0 where
-  pub marked : Marked w w' n i 0
-  pub within : m ≤ n
-  pub behind : (k : ℕ) → m ≤ k → k < n → mark w' k ≢ 1
-  pub last : (m ≡ 0) ⊎ (mark w' (m - 1) ≡ 1)
+-- what the words say of segment k, and of the first n
+abbrev pub entry : List ℕ → ℕ → Segment
+entry w k = record { start = start w k; room = room w k; words = seg w k; used = nat_eq (mark w k) 1 }
+
+unfoldable pub table : List ℕ → ℕ → Table
+table w n = record { lent = length w; segments = map (entry w) (range_with_len 0 n) }

@@ -1,4 +1,4 @@
-// Numbers of 64 bits in two words, and stretches of words.
+//! Numbers of 64 bits in two words, and stretches of words.
 ghost use Rattle.std.specs.Prelude.{◌≡◌, ℕ, ◌+◌, ◌<◌, ◌≤◌, ◌⊎◌, List, [], ◌∷◌, length, take, drop};
 ghost use Rattle.segments.specs.Words.{at64, put64, Written};
 
@@ -17,16 +17,13 @@ pub fn put_wide(t: &mut [u32], k: usize, v: usize)
     t[k + 1] = (v / 4294967296) as u32;
 }
 
-// The len words at `at` go to `to` as well.
+/// The len words at `at` go to `to` as well.
 pub fn copy_words(w: &mut [u32], at: usize, to: usize, len: usize)
-    requires fact { (at + len ≤ to) ⊎ (to + len ≤ at) }
-    requires len_in_bounds { to + len ≤ length w.old }
-    requires len_in_bounds_2 { at + len ≤ length w.old }
+    requires to_in_bounds { to + len ≤ length w.old }
+    requires at_in_bounds { at + len ≤ length w.old }
     ensures { Written w.old w.new to (take len (drop at w.old)) }
 {
-    for j in 0..len {
-        w[to + j] = w[at + j];
-    }
+    w.copy_within(at..at + len, to);
 }
 
 pub fn put_words(w: &mut [u32], to: usize, xs: &[u32])
@@ -34,11 +31,4 @@ pub fn put_words(w: &mut [u32], to: usize, xs: &[u32])
     ensures { Written w.old w.new to xs.now }
 {
     w[to..to + xs.len()].copy_from_slice(xs);
-}
-
-pub fn put_word(w: &mut [u32], to: usize, v: u32)
-    requires { to < length w.old }
-    ensures { Written w.old w.new to (v ∷ []) }
-{
-    w[to] = v;
 }

@@ -1,67 +1,67 @@
 -- Numbers that go out of use while the last takes their place, and what a loop over a block of numbers has done so far.
-use Rattle.std.proofs.Common.{◌≡◌, ℕ, suc, ◌+◌, ◌-◌, ◌*◌, ◌<◌, ◌≤◌, Bool, true, false, cond, ◌&&◌, List, [], get_or, set, sym, refl, ap, ◌∙◌, ap₂, ⊎_elim, add-one, arith}
+use Rattle.std.proofs.Common.{◌≡◌, ℕ, suc, ◌+◌, ◌-◌, ◌*◌, ◌<◌, ◌≤◌, Bool, true, false, cond, ◌&&◌, List, [], length, get_or, set, sym, refl, ap, ◌∙◌, ap₂, ⊎_elim, add-one, arith}
 use Rattle.std.proofs.lemmas.List.{set-set}
 use Rattle.std.proofs.lemmas.Bool.{and_from}
-use Rattle.segments.specs.Layout.{mark}
+use Rattle.segments.specs.Table.{nth}
 use Rattle.store.specs.Sums.{extent}
 use Rattle.store.specs.Dense.{Dense, marked, replaced, replaced_block}
 use Rattle.store.specs.Layout.{Layout, lists, lives}
 use Rattle.store.specs.Held.{Held, model, bounds, spent}
-use Rattle.store.proofs.Totals.{live_is}
+use Rattle.store.proofs.Totals.{lives_at}
 use Rattle.store.proofs.StoreLaws.{extent_of, live_back}
 use Rattle.store.proofs.Density.{Front, dense_front, front_extent, front_dense, dense_by, dense_remove, removed_bounds, removed_model, given_live, given_front, given_lists}
 
 module _ (s : Layout) (v : Held s) where
-  pub extent_count : extent (bounds s).1 ≡ s.count
+  pub extent_count : extent (bounds s).1 ≡ length s.table.segments
   unfolding Held bounds
-  extent_count = extent_of _ _ _ _ _ _ _ v
+  extent_count = extent_of _ _ _ _ _ _ v
 
-  pub in_table : (i : ℕ) → get_or (bounds s).1 i false ≡ true → i < s.count
+  pub in_table : (i : ℕ) → get_or (bounds s).1 i false ≡ true → i < length s.table.segments
   unfolding bounds
-  in_table i e = (live_back s.words s.half s.count i e).0
+  in_table i e = (live_back s.table s.half i e).0
 
-  last_in_use : 0 < s.count → get_or (bounds s).1 (s.count - 1) false ≡ true
+  last_in_use : 0 < length s.table.segments → get_or (bounds s).1 (length s.table.segments - 1) false ≡ true
   unfolding Held bounds
-  last_in_use h = live_is s.words s.half s.count (s.count - 1) (omega arith)
-      (⊎_elim (λ (z : s.count ≡ 0). absurd (omega arith)) (λ (z : mark s.words (s.count - 1) ≡ 1). z) v.tight)
+  last_in_use h = lives_at s.table s.half (length s.table.segments - 1) ∙
+      ⊎_elim (λ (z : length s.table.segments ≡ 0). absurd (omega arith)) (λ (z : (nth s.table (length s.table.segments - 1)).used ≡ true). z) v.tight
 
   -- the last list changes places with list i, and then goes out of use
   module _ (i : ℕ) (t : get_or (bounds s).1 i false ≡ true) (s₁ s₂ : Layout) where
-    pub removed_same : bounds s₁ ≡ bounds s → bounds s₂ ≡ ((bounds s₁).0, set (bounds s₁).1 (s.count - 1) false) →
+    pub removed_same : bounds s₁ ≡ bounds s → bounds s₂ ≡ ((bounds s₁).0, set (bounds s₁).1 (length s.table.segments - 1) false) →
         bounds s₂ ≡ cond (get_or (bounds s).1 i false) ((bounds s).0, set (bounds s).1 (extent (bounds s).1 - 1) false) (bounds s)
-    removed_same e f = rw (t, extent_count) (f ∙ ap (λ (p : ℕ × List Bool). (p.0, set p.1 (s.count - 1) false)) e)
+    removed_same e f = rw (t, extent_count) (f ∙ ap (λ (p : ℕ × List Bool). (p.0, set p.1 (length s.table.segments - 1) false)) e)
 
-    pub removed_dense : bounds s₁ ≡ bounds s → bounds s₂ ≡ ((bounds s₁).0, set (bounds s₁).1 (s.count - 1) false) → Dense (bounds s).1 → Dense (bounds s₂).1
+    pub removed_dense : bounds s₁ ≡ bounds s → bounds s₂ ≡ ((bounds s₁).0, set (bounds s₁).1 (length s.table.segments - 1) false) → Dense (bounds s).1 → Dense (bounds s₂).1
     removed_dense e f d =
-        let x : set (bounds s₁).1 (s.count - 1) false ≡ set (bounds s).1 (extent (bounds s).1 - 1) false =
+        let x : set (bounds s₁).1 (length s.table.segments - 1) false ≡ set (bounds s).1 (extent (bounds s).1 - 1) false =
         ap₂ (λ (p : ℕ × List Bool) (n : ℕ). set p.1 (n - 1) false) e (sym extent_count) in
         dense_by _ _ (ap (λ (p : ℕ × List Bool). p.1) f ∙ x) (dense_remove (bounds s).1 d)
 
-    pub removed_after : (r : Bool) → r ≡ (get_or (bounds s).1 i false && get_or (bounds s).1 (s.count - 1) false) →
-        model s₁ ≡ cond r (set (set (model s) i (get_or (model s) (s.count - 1) [])) (s.count - 1) (get_or (model s) i [])) (model s) →
-        model s₂ ≡ set (model s₁) (s.count - 1) [] →
+    pub removed_after : (r : Bool) → r ≡ (get_or (bounds s).1 i false && get_or (bounds s).1 (length s.table.segments - 1) false) →
+        model s₁ ≡ cond r (set (set (model s) i (get_or (model s) (length s.table.segments - 1) [])) (length s.table.segments - 1) (get_or (model s) i [])) (model s) →
+        model s₂ ≡ set (model s₁) (length s.table.segments - 1) [] →
         model s₂ ≡ cond (get_or (bounds s).1 i false) (replaced (model s) i (extent (bounds s).1 - 1)) (model s)
     removed_after r q e f =
         let z : r ≡ true = q ∙ and_from _ _ t (last_in_use (omega (arith, in_table i t))) in
         rw (t, extent_count)
-        (f ∙ ap (λ (y : List (List ℕ)). set y (s.count - 1) []) (rw z at e) ∙ set-set (set (model s) i (get_or (model s) (s.count - 1) [])) (s.count - 1) (get_or (model s) i []) [])
+        (f ∙ ap (λ (y : List (List ℕ)). set y (length s.table.segments - 1) []) (rw z at e) ∙ set-set (set (model s) i (get_or (model s) (length s.table.segments - 1) [])) (length s.table.segments - 1) (get_or (model s) i []) [])
 
 -- j numbers more, behind all others
 pub record Taken (s s' : Layout) (j : ℕ) : Type 0 where
   pub half : s'.half ≡ s.half
-  pub count : s'.count ≡ s.count + j
+  pub count : length s'.table.segments ≡ length s.table.segments + j
   pub total : s'.total ≡ s.total
-  pub live : lives s'.words s'.half s'.count ≡ marked (lives s.words s.half s.count) s.count j true
-  pub same : lists s'.words s'.half s'.count ≡ lists s.words s.half s.count
+  pub live : lives s'.table s'.half ≡ marked (lives s.table s.half) (length s.table.segments) j true
+  pub same : lists s'.table s'.half ≡ lists s.table s.half
   pub cost : spent s' ≤ spent s + 64 * j
 
 pub taken_none : (s : Layout) → Taken s s 0
 unfolding marked
 taken_none s = record { half = refl; count = omega arith; total = refl; live = refl; same = refl; cost = omega arith }
 
-pub taken_more : (s s₁ s₂ : Layout) (j : ℕ) → Taken s s₁ j → (s₂.count ≡ s₁.count + 1) × (s₂.total ≡ s₁.total) →
-    (s₂.half ≡ s₁.half) × (lives s₂.words s₂.half s₂.count ≡ set (lives s₁.words s₁.half s₁.count) s₁.count true) →
-    lists s₂.words s₂.half s₂.count ≡ lists s₁.words s₁.half s₁.count → spent s₂ ≤ spent s₁ + 64 → Taken s s₂ (j + 1)
+pub taken_more : (s s₁ s₂ : Layout) (j : ℕ) → Taken s s₁ j → (length s₂.table.segments ≡ length s₁.table.segments + 1) × (s₂.total ≡ s₁.total) →
+    (s₂.half ≡ s₁.half) × (lives s₂.table s₂.half ≡ set (lives s₁.table s₁.half) (length s₁.table.segments) true) →
+    lists s₂.table s₂.half ≡ lists s₁.table s₁.half → spent s₂ ≤ spent s₁ + 64 → Taken s s₂ (j + 1)
 unfolding marked
 taken_more s s₁ s₂ j t n b l c =
     record {
@@ -81,7 +81,7 @@ pub record Given (s s' : Layout) (i at k j : ℕ) : Type 0 where
   pub front : Front (bounds s').1 (at + j)
   pub cost : spent s' ≤ spent s
 
-pub given_none : (s : Layout) (i at k : ℕ) → Held s → Dense (bounds s).1 → at + k ≡ s.count → Given s s i at k k
+pub given_none : (s : Layout) (i at k : ℕ) → Held s → Dense (bounds s).1 → at + k ≡ length s.table.segments → Given s s i at k k
 given_none s i at k v d e =
     let z : at + k ≡ extent (bounds s).1 = e ∙ sym (extent_count s v) in
     record { half = refl; live = refl; same = refl; front = rw z (dense_front (bounds s).1 d); cost = omega arith }

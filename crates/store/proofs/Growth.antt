@@ -1,78 +1,74 @@
 -- Words that are put behind a list, once there is room for them.
-use Rattle.std.proofs.Common.{◌≡◌, ℕ, ◌+◌, ◌*◌, ◌/◌, ◌<◌, ◌≤◌, Bool, false, ◌≢◌, List, [], ◌++◌, length, get_or, set, ap, ◌∙◌, ap₂, arith}
-use Rattle.std.proofs.lemmas.List.{length-append}
-use Rattle.segments.specs.Layout.{size, mark, segs, Changed, strain}
-use Rattle.store.specs.Layout.{Layout, lists, lives, Inv}
+use Rattle.std.proofs.Common.{◌≡◌, ℕ, ◌+◌, ◌-◌, ◌*◌, ◌/◌, ◌<◌, ◌≤◌, Bool, true, false, List, [], ◌++◌, length, get_or, set, sym, ap, ◌∙◌, ap₂, arith}
+use Rattle.std.proofs.lemmas.List.{length-append, length-set}
+use Rattle.std.proofs.lemmas.Bool.{false≢true}
+use Rattle.segments.specs.Table.{Segment, nth, written, strain}
+use Rattle.store.specs.Layout.{Layout, lists, lives}
 use Rattle.store.specs.Held.{Sound, Shifted, Reserved, pressed}
-use Rattle.segments.proofs.Table.{marks_same}
-use Rattle.store.proofs.Totals.{lists_at, lists_by, lives_by}
-use Rattle.store.proofs.StoreLaws.{few, old_size, changed_inv, changed_model, changed_bounds, changed_strain}
+use Rattle.segments.proofs.Placed.{words_same}
+use Rattle.store.proofs.Totals.{lists_at, lists_by, lives_by, there}
+use Rattle.store.proofs.StoreLaws.{few, same_count, same_used, strain_placed, changed_inv, changed_model, changed_bounds}
 
-module _ (s s₁ : Layout) (v₁ : Sound s₁) (z : Shifted s s₁) where
-  shifted_few : s.count ≤ s.half
-  shifted_few = omega (arith, few _ _ _ _ _ _ _ v₁, z.half, z.count)
+module _ (s s₁ : Layout) (v : Sound s₁) (z : Shifted s s₁) where
+  few_now : length s₁.table.segments ≤ s.half
+  few_now = omega (arith, few _ _ _ _ _ _ v, z.half)
 
-  pub shifted_model : lists s₁.words s₁.half s₁.count ≡ lists s.words s.half s.count
-  shifted_model = rw (z.half, z.count)
-      (lists_by s.words s₁.words s.half s.count s.count shifted_few shifted_few (λ k. ap (λ (y : List (List ℕ)). get_or y k []) z.same))
+  few_then : length s.table.segments ≤ s.half
+  few_then = omega (arith, few_now, same_count s₁.table s.table z.same)
 
-  pub shifted_lives : lives s₁.words s₁.half s₁.count ≡ lives s.words s.half s.count
-  shifted_lives = rw (z.half, z.count)
-      (lives_by s.words s₁.words s.half s.count s.count shifted_few shifted_few
-      (λ k. ap (λ (y : List Bool). get_or y k false) (marks_same s.words s₁.words s.count z.used)))
+  pub shifted_model : lists s₁.table s₁.half ≡ lists s.table s.half
+  shifted_model = rw z.half (lists_by s.table s₁.table s.half few_then few_now (λ k. words_same s₁.table s.table k z.same))
 
-  pub shifted_bounds : ◌≡◌ {A = ℕ × List Bool} (s₁.half, lives s₁.words s₁.half s₁.count) (s.half, lives s.words s.half s.count)
+  pub shifted_lives : lives s₁.table s₁.half ≡ lives s.table s.half
+  shifted_lives = rw z.half (lives_by s.table s₁.table s.half few_then few_now (same_used s₁.table s.table z.used))
+
+  pub shifted_bounds : ◌≡◌ {A = ℕ × List Bool} (s₁.half, lives s₁.table s₁.half) (s.half, lives s.table s.half)
   shifted_bounds = ap₂ (λ (h : ℕ) (y : List Bool). (h, y)) z.half shifted_lives
 
-same_cost : (p q a b : ℕ) → a ≡ b → p + 13 * b ≤ q → p + 13 * a ≤ q
-same_cost p q a b e h = omega arith
+  -- list j is what it was
+  pub shifted_list : (j : ℕ) → (nth s₁.table j).words ≡ get_or (lists s.table s.half) j []
+  shifted_list j = sym (lists_at s₁.table s₁.half j) ∙ ap (λ (y : List (List ℕ)). get_or y j []) shifted_model
 
 -- the sum still holds with k words more
 pub grew_bound : (total k n half m : ℕ) → total + total / 4 + 8 * n + half / 8 + (m + k + (m + k) / 2 + 8) ≤ half → (total + k) + (total + k) / 4 + 8 * n + half / 8 ≤ half
 grew_bound total k n half m h = omega arith
 
-module _ (s u : Layout) (i : ℕ) (xs : List ℕ) (v₁ : Sound u) (z : Reserved s u i (length xs)) (w₂ : List ℕ)
-    (c : Changed u.words w₂ u.count i (get_or (segs u.words u.count) i [] ++ xs)) (l : length w₂ ≡ length u.words) where
-  abbrev w₁ : List ℕ
-  w₁ = u.words
-
+module _ (s u : Layout) (i : ℕ) (xs : List ℕ) (v : Sound u) (z : Reserved s u i (length xs)) where
   abbrev before : List ℕ
-  before = get_or (lists w₁ u.half u.count) i []
+  before = (nth u.table i).words
 
-  grew : Changed w₁ w₂ u.count i (before ++ xs)
-  grew = rw (lists_at w₁ u.half u.count i) c
+  -- the store, with these words behind list i
+  abbrev pub grown : ℕ → Layout
+  grown total = record { table = written u.table i (before ++ xs); half = u.half; hi = u.hi; low = u.low; total = total; hint = u.hint; moved = u.moved }
 
-  inside : i < u.count
-  inside = rw z.shifted.count z.there
+  live : (nth u.table i).used ≡ true
+  live = same_used u.table s.table z.shifted.used i ∙ z.live
 
-  alive : i < u.count → mark w₁ i ≢ 1 → before ++ xs ≡ []
-  alive h d = absurd (d (z.shifted.used i z.there ∙ z.live))
+  alive : (nth u.table i).used ≡ false → before ++ xs ≡ []
+  alive d = absurd (false≢true (sym d ∙ live))
 
-  past : u.count ≤ i → before ++ xs ≡ []
-  past h = absurd (omega (arith, inside))
+  pub inside : i < length u.table.segments
+  inside = there u.table i live
 
-  pub grew_inv : (t : ℕ) → t ≡ u.total + length xs → Inv w₂ u.half u.count u.hi u.low t u.hint
-  grew_inv t e = changed_inv w₁ u.half u.count u.hi u.low u.total u.hint v₁ w₂ i t (before ++ xs) grew l alive past
+  pub grew_inv : (total : ℕ) → total ≡ u.total + length xs → Sound (grown total)
+  grew_inv total e = changed_inv u.table u.half u.hi u.low u.total u.hint v i total (before ++ xs) alive
       (omega (arith, length-append before xs))
-      (rw (e, z.shifted.total, z.shifted.count, z.shifted.half) (grew_bound s.total (length xs) s.count s.half (size s.words i) z.spare))
+      (rw (e, z.shifted.total, z.shifted.half, same_count u.table s.table z.shifted.same) (grew_bound s.total (length xs) (length s.table.segments) s.half (length (nth s.table i).words) z.spare))
 
-  pub grew_model : lists w₂ u.half u.count ≡ set (lists s.words s.half s.count) i (get_or (lists s.words s.half s.count) i [] ++ xs)
-  grew_model = rw (shifted_model s u v₁ z.shifted) at
-      (changed_model w₁ u.half u.count u.hi u.low u.total u.hint v₁ w₂ i u.total (before ++ xs) grew l alive past)
+  pub grew_model : lists (written u.table i (before ++ xs)) u.half ≡ set (lists s.table s.half) i (get_or (lists s.table s.half) i [] ++ xs)
+  grew_model = changed_model u.table u.half u.hi u.low u.total u.hint v i u.total (before ++ xs) alive ∙
+      ap₂ (λ (y : List (List ℕ)) (x : List ℕ). set y i (x ++ xs)) (shifted_model s u v z.shifted) (shifted_list s u v z.shifted i)
 
-  pub grew_bounds : ◌≡◌ {A = ℕ × List Bool} (u.half, lives w₂ u.half u.count) (s.half, lives s.words s.half s.count)
-  grew_bounds = changed_bounds w₁ u.half u.count u.hi u.low u.total u.hint v₁ w₂ i u.total (before ++ xs) grew l alive past ∙
-      shifted_bounds s u v₁ z.shifted
+  pub grew_bounds : ◌≡◌ {A = ℕ × List Bool} (u.half, lives (written u.table i (before ++ xs)) u.half) (s.half, lives s.table s.half)
+  grew_bounds = changed_bounds u.table u.half u.hi u.low u.total u.hint v i u.total (before ++ xs) alive ∙ shifted_bounds s u v z.shifted
 
-  grown_length : length (before ++ xs) ≡ size s.words i + length xs
-  grown_length = length-append before xs ∙ omega (
-    arith,
-    old_size w₁ u.half u.count u.hi u.low u.total u.hint v₁ i inside,
-    z.shifted.sizes i z.there,
-  )
-
-  pub grew_cost : pressed u 0 + 13 * strain w₂ u.count ≤ pressed s 0 + 13 * strain s.words s.count + 128 * length xs
-  grew_cost =
-      let a = changed_strain w₁ u.half u.count u.hi u.low u.total u.hint v₁ w₂ i u.total (before ++ xs) grew l alive past inside in
-      same_cost (pressed u 0) (pressed s 0 + 13 * strain s.words s.count + 128 * length xs) (strain w₂ u.count) (strain w₂ s.count)
-      (ap (strain w₂) z.shifted.count) (z.cost (strain w₂ s.count) (rw (grown_length, z.shifted.count) at a))
+  pub grew_cost : (total : ℕ) → pressed (grown total) 0 + 13 * strain (grown total).table ≤ pressed s 0 + 13 * strain s.table + 128 * length xs
+  grew_cost total =
+      let r : Segment = record { start = (nth u.table i).start; room = (nth u.table i).room; words = before ++ xs; used = (nth u.table i).used } in
+      let p : pressed (grown total) 0 ≡ pressed u 0 = ap (λ (n : ℕ). u.moved + 8 * (u.half / 8 - (((u.low + u.half) - (u.hi + 8 * n)) - 0))) (length-set u.table.segments i r) in
+      rw p (z.cost (strain (grown total).table) (omega (
+        arith,
+        strain_placed u.table i r inside,
+        length-append before xs,
+        ap (length {A = ℕ}) (words_same u.table s.table i z.shifted.same),
+      )))

@@ -1,176 +1,185 @@
 -- What keeps a store in order.
-use Rattle.std.proofs.Common.{◌≡◌, ℕ, ◌+◌, ◌-◌, ◌*◌, ◌/◌, ◌^◌, ◌<◌, ◌≤◌, Bool, true, false, ◌≢◌, ◌⊎◌, List, [], length, get_or, set, sym, ap, ◌∙◌, ap₂, inl, inr, ⊎_elim, arith, w64, Fits}
-use Rattle.std.proofs.lemmas.List.{get_or-set_same, get_or-set_other, set_past, set-get_or}
-use Rattle.std.proofs.lemmas.Bool.{cases_eq, cases_lt, le-leb, lt-leb, eqb-true, false≢true}
-use Rattle.segments.specs.Layout.{size, room, mark, segs, Good, Within, Changed, Moved, need, spread, tense, strain}
+use Rattle.std.proofs.Common.{◌≡◌, ℕ, ◌+◌, ◌-◌, ◌*◌, ◌/◌, ◌^◌, ◌<◌, ◌≤◌, Bool, true, false, ◌≢◌, ◌⊎◌, List, [], length, get_or, set, sym, refl, ap, ◌∙◌, inl, inr, ⊎_elim, arith, w64, Fits}
+use Rattle.std.proofs.lemmas.List.{length-set, set-get_or, set_past}
+use Rattle.std.proofs.lemmas.Bool.{cases_eq, cases_lt, le-leb, lt-leb}
+use Rattle.segments.specs.Layout.{need, spread}
+use Rattle.segments.specs.Table.{Segment, Table, nth, segs, marks, placed, written, moved, Within, tense, upto, strain}
 use Rattle.store.specs.Sums.{extent, enough}
 use Rattle.store.specs.Layout.{Layout, lists, lives, Inv}
-use Rattle.store.specs.Held.{Sound, Shifted}
-use Rattle.segments.proofs.Table.{length_segs, marks_same, marks_at, segs_past}
-use Rattle.segments.proofs.SegmentLaws.{len_is}
+use Rattle.store.specs.Held.{Shifted}
+use Rattle.segments.proofs.Placed.{nth_same, nth_other, nth_past, segs_at, marks_at, length_segs, segs_placed, segs_kept, marks_kept, words_same}
 use Rattle.segments.proofs.Moves.{need_set, need_at, spread_le}
-use Rattle.store.proofs.Totals.{lists_at, lists_set, lives_by, lives_at, need_lists, dead_past, live_is, extent_lives}
-use Rattle.segments.proofs.Upto.{upto_one, upto_none, upto_le}
+use Rattle.segments.proofs.Upto.{upto_one, upto_none}
+use Rattle.store.proofs.Totals.{lists_at, lists_set, lives_by, lives_at, need_lists, there, extent_lives}
 
-pub tight_by : (w w' : List ℕ) (n : ℕ) → ((k : ℕ) → k < n → mark w' k ≡ mark w k) → (n ≡ 0) ⊎ (mark w (n - 1) ≡ 1) → (n ≡ 0) ⊎ (mark w' (n - 1) ≡ 1)
-tight_by w w' n f t = ⊎_elim (λ (z : n ≡ 0). inl z) (λ (z : n ≢ 0). ⊎_elim inl (λ (q : mark w (n - 1) ≡ 1). inr (f (n - 1) (omega arith) ∙ q)) t) (cases_eq n 0)
+-- segments with the same words, or as much in use
+pub same_count : (t u : Table) → segs t ≡ segs u → length t.segments ≡ length u.segments
+same_count t u e = sym (length_segs t) ∙ ap length e ∙ length_segs u
 
-module _ (w : List ℕ) (half n hi low total hint : ℕ) (v : Inv w half n hi low total hint) where
-  pub few : n ≤ half
+pub same_used : (t u : Table) → marks t ≡ marks u → (k : ℕ) → (nth t k).used ≡ (nth u k).used
+same_used t u e k = sym (marks_at t k) ∙ ap (λ (y : List Bool). get_or y k false) e ∙ marks_at u k
+
+pub tight_by : (t u : Table) → length t.segments ≡ length u.segments → ((k : ℕ) → (nth t k).used ≡ (nth u k).used) →
+    (length u.segments ≡ 0) ⊎ ((nth u (length u.segments - 1)).used ≡ true) → (length t.segments ≡ 0) ⊎ ((nth t (length t.segments - 1)).used ≡ true)
+tight_by t u c f e = ⊎_elim (λ (z : length u.segments ≡ 0). inl (c ∙ z)) (λ (z : (nth u (length u.segments - 1)).used ≡ true). inr (rw c (f (length u.segments - 1) ∙ z))) e
+
+-- what was paid in, where one segment is now s
+pub strain_placed : (t : Table) (i : ℕ) (s : Segment) → i < length t.segments → strain (placed t i s) + tense (nth t i) ≡ strain t + tense s
+strain_placed t i s h =
+    let f : ℕ → ℕ = λ k. tense (nth t k) in
+    let g : ℕ → ℕ = λ k. tense (nth (placed t i s) k) in
+    omega (
+      arith,
+      ap (upto g) (length-set t.segments i s),
+      upto_one f g (length t.segments) i h (λ k kn ne. ap tense (nth_other t i k s ne)),
+      ap tense (nth_same t i s h),
+    )
+
+module _ (t : Table) (half hi low total hint : ℕ) (v : Inv t half hi low total hint) where
+  pub few : length t.segments ≤ half
   few = omega (arith, v.bound)
 
-  pub need_is : need (lists w half n) ≡ total
-  need_is = need_lists w half n ∙ sym v.sum
+  pub need_is : need (lists t half) ≡ total
+  need_is = need_lists t half ∙ sym v.sum
 
-  pub extent_of : extent (lives w half n) ≡ n
-  extent_of = extent_lives w half n v.tight
+  pub extent_of : extent (lives t half) ≡ length t.segments
+  extent_of = extent_lives t half v.tight
 
   -- whether there is room
-  pub enough_yes : (ask : ℕ) → total + total / 4 + 8 * n + half / 8 + ask ≤ half → enough (half, lives w half n) (lists w half n) ask ≡ true
+  pub enough_yes : (ask : ℕ) → total + total / 4 + 8 * length t.segments + half / 8 + ask ≤ half → enough (half, lives t half) (lists t half) ask ≡ true
   unfolding enough
   enough_yes ask h = rw (need_is, extent_of) (le-leb _ _ h)
 
-  pub enough_no : (ask : ℕ) → half < total + total / 4 + 8 * n + half / 8 + ask → enough (half, lives w half n) (lists w half n) ask ≡ false
+  pub enough_no : (ask : ℕ) → half < total + total / 4 + 8 * length t.segments + half / 8 + ask → enough (half, lives t half) (lists t half) ask ≡ false
   unfolding enough
   enough_no ask h = rw (need_is, extent_of) (lt-leb _ _ h)
 
-  pub size_le : (i : ℕ) → length (get_or (lists w half n) i []) ≤ total
-  size_le i = rw (← need_is) (need_at (lists w half n) i)
+  pub size_le : (i : ℕ) → length (nth t i).words ≤ total
+  size_le i = let e : length (get_or (segs t) i []) ≡ length (nth t i).words = ap length (segs_at t i) in omega (arith, need_at (segs t) i, v.sum)
 
-  -- a list that is not in use is empty
-  pub past_old : (i : ℕ) → n ≤ i → get_or (lists w half n) i [] ≡ []
-  past_old i h = lists_at w half n i ∙ segs_past w n i h
-
-  pub dead_old : (i : ℕ) → i < n → mark w i ≢ 1 → get_or (lists w half n) i [] ≡ []
-  dead_old i h d = lists_at w half n i ∙ v.empty i h d
-
-  pub there : (i m : ℕ) → m < length (get_or (lists w half n) i []) → i < n
-  there i m h = ⊎_elim (λ (q : i < n). q) (λ (q : n ≤ i). absurd (omega (arith, ap (length {A = ℕ}) (past_old i q)))) (cases_lt i n)
-
-  pub old_size : (i : ℕ) → i < n → size w i ≡ length (get_or (lists w half n) i [])
-  old_size i h = len_is w n v.good i h ∙ sym (ap length (lists_at w half n i))
+  -- the same segments in use, with the same words, that lie elsewhere
+  pub elsewhere : (t' : Table) (hi' low' : ℕ) → t'.lent ≡ t.lent → segs t' ≡ segs t → marks t' ≡ marks t → Within t' 0 low' hi' →
+      (hi' ≡ half) ⊎ (hi' ≡ half + half) → hi' + 8 * length t.segments ≤ low' + half → low' ≤ hi' → Inv t' half hi' low' total hint
+  elsewhere t' hi' low' l e m within side floor ceil =
+      let c = same_count t' t e in
+      let u = same_used t' t m in
+      record {
+        within = within;
+        side = side;
+        floor = omega arith;
+        ceil = ceil;
+        long = omega (arith, v.long);
+        small = v.small;
+        sum = v.sum ∙ sym (ap need e);
+        bound = omega (arith, v.bound);
+        tight = tight_by t' t c u v.tight;
+        known = omega (arith, v.known);
+        below = λ k h. u k ∙ v.below k h;
+        empty = λ k d. words_same t' t k e ∙ v.empty k (sym (u k) ∙ d);
+      }
 
   -- list i is now x
-  module _ (w' : List ℕ) (i total' : ℕ) (x : List ℕ) (c : Changed w w' n i x) (l : length w' ≡ length w)
-      (live : i < n → mark w i ≢ 1 → x ≡ []) (past : n ≤ i → x ≡ []) where
-    changed_total : total' + length (get_or (lists w half n) i []) ≡ total + length x → total' ≡ need (segs w' n)
-    changed_total e = ⊎_elim
-        (λ (h : i < n). omega (arith, v.sum, ap need c.after, need_set (segs w n) i x (omega (arith, length_segs w n)), ap (length {A = ℕ}) (lists_at w half n i)))
-        (λ (h : n ≤ i). omega (arith, v.sum, ap need (c.after ∙ set_past (segs w n) i x (omega (arith, length_segs w n))), ap (length {A = ℕ}) (past_old i h), ap (length {A = ℕ}) (past h)))
-        (cases_lt i n)
+  module _ (i total' : ℕ) (x : List ℕ) (live : (nth t i).used ≡ false → x ≡ []) where
+    abbrev one : Segment
+    one = record { start = (nth t i).start; room = (nth t i).room; words = x; used = (nth t i).used }
 
-    changed_empty : (k : ℕ) → k < n → mark w' k ≢ 1 → get_or (segs w' n) k [] ≡ []
-    changed_empty k kn d =
-        let dw : mark w k ≢ 1 = λ q. d (c.used k kn ∙ q) in
-        ap (λ (y : List (List ℕ)). get_or y k []) c.after ∙ ⊎_elim
-        (λ (q : k ≡ i). rw q (get_or-set_same (segs w n) i x [] (omega (arith, length_segs w n)) ∙ live (omega arith) (rw q at dw)))
-        (λ (q : k ≢ i). get_or-set_other (segs w n) i k x [] q ∙ v.empty k kn dw)
+    past : length t.segments ≤ i → x ≡ []
+    past h = live (ap (λ (s : Segment). s.used) (nth_past t i h))
+
+    now : (nth (written t i x) i).words ≡ x
+    now = ⊎_elim
+        (λ (h : i < length t.segments). ap (λ (s : Segment). s.words) (nth_same t i one h))
+        (λ (h : length t.segments ≤ i). ap (λ (s : Segment). s.words) (nth_past (written t i x) i (omega (arith, length-set t.segments i one))) ∙ sym (past h))
+        (cases_lt i (length t.segments))
+
+    kept : (k : ℕ) → ((nth (written t i x) k).start ≡ (nth t k).start) × ((nth (written t i x) k).room ≡ (nth t k).room) × ((nth (written t i x) k).used ≡ (nth t k).used)
+    kept k = ⊎_elim
+        (λ (q : k ≡ i). ⊎_elim
+        (λ (h : i < length t.segments). let e = nth_same t i one h in
+        rw q (ap (λ (s : Segment). s.start) e, ap (λ (s : Segment). s.room) e, ap (λ (s : Segment). s.used) e))
+        (λ (h : length t.segments ≤ i). let e = nth_past (written t i x) i (omega (arith, length-set t.segments i one)) ∙ sym (nth_past t i h) in
+        rw q (ap (λ (s : Segment). s.start) e, ap (λ (s : Segment). s.room) e, ap (λ (s : Segment). s.used) e))
+        (cases_lt i (length t.segments)))
+        (λ (q : k ≢ i). let e = nth_other t i k one q in
+        (ap (λ (s : Segment). s.start) e, ap (λ (s : Segment). s.room) e, ap (λ (s : Segment). s.used) e))
         (cases_eq k i)
 
-    pub changed_inv : total' + length (get_or (lists w half n) i []) ≡ total + length x → total' + total' / 4 + 8 * n + half / 8 ≤ half → Inv w' half n hi low total' hint
-    changed_inv t b =
+    changed_total : total' + length (nth t i).words ≡ total + length x → total' ≡ need (segs (written t i x))
+    changed_total e = rw segs_placed (⊎_elim
+        (λ (h : i < length t.segments). omega (arith, v.sum, need_set (segs t) i x (omega (arith, length_segs t)), ap (length {A = ℕ}) (segs_at t i)))
+        (λ (h : length t.segments ≤ i). omega (arith, v.sum, ap need (set_past (segs t) i x (omega (arith, length_segs t))), ap (length {A = ℕ}) (past h), ap (λ (s : Segment). length s.words) (nth_past t i h)))
+        (cases_lt i (length t.segments)))
+
+    pub changed_inv : total' + length (nth t i).words ≡ total + length x → total' + total' / 4 + 8 * length t.segments + half / 8 ≤ half → Inv (written t i x) half hi low total' hint
+    changed_inv e b =
+        let c = length-set t.segments i one in
         record {
-          good = c.good;
-          within = λ k z kn. rw ((c.places k kn).0, (c.places k kn).1) (v.within k z kn);
+          within = λ k z kn. rw ((kept k).0, (kept k).1) (v.within k z (omega arith));
           side = v.side;
-          floor = v.floor;
+          floor = omega (arith, v.floor);
           ceil = v.ceil;
-          long = omega (arith, v.long);
-          sum = changed_total t;
-          bound = b;
-          tight = tight_by w w' n c.used v.tight;
-          known = v.known;
-          below = λ k kh. c.used k (omega (arith, v.known)) ∙ v.below k kh;
-          empty = changed_empty;
+          long = v.long;
+          small = v.small;
+          sum = changed_total e;
+          bound = omega arith;
+          tight = tight_by (written t i x) t c (λ k. (kept k).2) v.tight;
+          known = omega (arith, v.known);
+          below = λ k h. (kept k).2 ∙ v.below k h;
+          empty = λ k d. ⊎_elim
+              (λ (q : k ≡ i). rw q (now ∙ live (sym (kept i).2 ∙ rw q at d)))
+              (λ (q : k ≢ i). ap (λ (s : Segment). s.words) (nth_other t i k one q) ∙ v.empty k (sym (kept k).2 ∙ d))
+              (cases_eq k i);
         }
 
-    pub changed_model : lists w' half n ≡ set (lists w half n) i x
-    changed_model = lists_set w w' half n i x past c.after
+    pub changed_model : lists (written t i x) half ≡ set (lists t half) i x
+    changed_model = lists_set t (written t i x) half i x few (omega (arith, few, length-set t.segments i one)) (λ h. past (omega (arith, few))) now
+        (λ k q. ap (λ (s : Segment). s.words) (nth_other t i k one q))
 
-    pub changed_bounds : ◌≡◌ {A = ℕ × List Bool} (half, lives w' half n) (half, lives w half n)
-    changed_bounds = ap (λ (y : List Bool). (half, y)) (lives_by w w' half n n few few (λ k. ap (λ (y : List Bool). get_or y k false) (marks_same w w' n c.used)))
+    pub changed_bounds : ◌≡◌ {A = ℕ × List Bool} (half, lives (written t i x) half) (half, lives t half)
+    changed_bounds = ap (λ (y : List Bool). (half, y)) (lives_by t (written t i x) half few (omega (arith, few, length-set t.segments i one)) (λ k. (kept k).2))
 
-    changed_sizes : (k : ℕ) → k < n → k ≢ i → size w' k ≡ size w k
-    changed_sizes k kn ne = len_is w' n c.good k kn ∙ ap (λ (y : List (List ℕ)). length (get_or y k [])) c.after ∙
-        ap length (get_or-set_other (segs w n) i k x [] ne) ∙ sym (len_is w n v.good k kn)
+    pub shrunk_strain : length x ≤ length (nth t i).words → strain (written t i x) ≤ strain t
+    shrunk_strain le = ⊎_elim
+        (λ (h : i < length t.segments). omega (arith, strain_placed t i one h))
+        (λ (h : length t.segments ≤ i). omega (
+          arith,
+          ap (λ (y : List Segment). strain (record { lent = t.lent; segments = y }))
+              (set_past t.segments i one h),
+        ))
+        (cases_lt i (length t.segments))
 
-    changed_size : i < n → size w' i ≡ length x
-    changed_size h = len_is w' n c.good i h ∙ ap (λ (y : List (List ℕ)). length (get_or y i [])) c.after ∙
-        ap length (get_or-set_same (segs w n) i x [] (omega (arith, length_segs w n)))
-
-    -- what is paid in for the moves to come
-    pub changed_strain : i < n → strain w' n + tense w i ≡ strain w n + (5 * length x - (4 * room w i + 3))
-    changed_strain h = rw (← ap₂ (λ (a b : ℕ). 5 * a - (4 * b + 3)) (changed_size h) (c.places i h).1) (upto_one (tense w) (tense w') n i h
-        (λ k kn ne. ap₂ (λ (a b : ℕ). 5 * a - (4 * b + 3)) (changed_sizes k kn ne) (c.places k kn).1))
-
-    pub shrunk_strain : length x ≤ length (get_or (lists w half n) i []) → strain w' n ≤ strain w n
-    shrunk_strain le = upto_le (tense w) (tense w') n (λ k kn. ⊎_elim
-        (λ (q : k ≡ i). let h : i < n = omega arith in rw q (omega (arith, changed_size h, old_size i h, (c.places i h).1)))
-        (λ (q : k ≢ i). omega (arith, changed_sizes k kn q, (c.places k kn).1))
-        (cases_eq k i))
-
-  pub spread_few : spread (segs w n) ≤ total + total / 4
-  spread_few = rw v.sum (spread_le (segs w n))
+  pub spread_few : spread (segs t) ≤ total + total / 4
+  spread_few = rw v.sum (spread_le (segs t))
 
   -- all lists lie in the other half
-  module _ (w' : List ℕ) (hi' low' : ℕ) (good : Good w' n) (same : segs w' n ≡ segs w n) (within : Within w' 0 n low' hi')
-      (end : low' + spread (segs w n) ≡ hi') (side : (hi' ≡ half) ⊎ (hi' ≡ half + half)) (used : (k : ℕ) → k < n → mark w' k ≡ mark w k) (l : length w' ≡ length w) where
-    pub tidied : Inv w' half n hi' low' total hint
-    tidied =
-        record {
-          good = good;
-          within = within;
-          side = side;
-          floor = omega (arith, spread_few, v.bound);
-          ceil = omega arith;
-          long = omega (arith, v.long);
-          sum = v.sum ∙ sym (ap need same);
-          bound = v.bound;
-          tight = tight_by w w' n used v.tight;
-          known = v.known;
-          below = λ k kh. used k (omega (arith, v.known)) ∙ v.below k kh;
-          empty = λ k kn d. ap (λ (y : List (List ℕ)). get_or y k []) same ∙ v.empty k kn (λ q. d (used k kn ∙ q));
-        }
+  pub tidied : (t' : Table) (hi' low' : ℕ) → t'.lent ≡ t.lent → segs t' ≡ segs t → marks t' ≡ marks t → Within t' 0 low' hi' →
+      low' + spread (segs t) ≡ hi' → (hi' ≡ half) ⊎ (hi' ≡ half + half) → Inv t' half hi' low' total hint
+  tidied t' hi' low' l e m within end side = elsewhere t' hi' low' l e m within side (omega (arith, spread_few, v.bound)) (omega arith)
 
   -- the target of a move to the other half
   pub other_side : ((3 * half - hi) ≡ half) ⊎ ((3 * half - hi) ≡ half + half)
   other_side = ⊎_elim (λ (q : hi ≡ half). inr (omega arith)) (λ (q : hi ≡ half + half). inl (omega arith)) v.side
 
-  pub other_apart : (hi + spread (segs w n) ≤ 3 * half - hi) ⊎ (3 * half - hi ≤ low)
+  pub other_apart : (hi + spread (segs t) ≤ 3 * half - hi) ⊎ (3 * half - hi ≤ low)
   other_apart = ⊎_elim
       (λ (q : hi ≡ half). inl (omega (arith, spread_few, v.bound)))
       (λ (q : hi ≡ half + half). inr (omega (arith, v.floor)))
       v.side
 
   -- list i lies before all others, with room r
-  module _ (w' : List ℕ) (i r to : ℕ) (m : Moved w w' n i to r) (h : i < n) (e : to + r ≡ low) (f : hi + 8 * n ≤ to + half) (l : length w' ≡ length w) where
-    pub widened : Inv w' half n hi to total hint
-    widened =
-        record {
-          good = m.good;
-          within = λ k z kn. ⊎_elim
-              (λ (q : k ≡ i). rw (q, m.place.0, m.place.1) (omega arith, omega (arith, v.ceil)))
-              (λ (q : k ≢ i). let y = v.within k z kn in rw ((m.others k kn q).0, (m.others k kn q).1) (omega (arith, y.0), y.1))
-              (cases_eq k i);
-          side = v.side;
-          floor = f;
-          ceil = omega (arith, v.ceil);
-          long = omega (arith, v.long);
-          sum = v.sum ∙ sym (ap need m.same);
-          bound = v.bound;
-          tight = tight_by w w' n m.used v.tight;
-          known = v.known;
-          below = λ k kh. m.used k (omega (arith, v.known)) ∙ v.below k kh;
-          empty = λ k kn d. ap (λ (y : List (List ℕ)). get_or y k []) m.same ∙ v.empty k kn (λ q. d (m.used k kn ∙ q));
-        }
+  pub widened : (i to r : ℕ) → i < length t.segments → to + r ≡ low → hi + 8 * length t.segments ≤ to + half → Inv (moved t i to r) half hi to total hint
+  widened i to r h e f =
+      elsewhere (moved t i to r) hi to refl (segs_kept t i _ refl) (marks_kept t i _ refl)
+      (λ k z kn. ⊎_elim
+      (λ (q : k ≡ i). rw (q, nth_same t i _ h) (omega arith, omega (arith, v.ceil)))
+      (λ (q : k ≢ i). let y = v.within k z (rw length-set at kn) in rw (nth_other t i k _ q) (omega (arith, y.0), y.1))
+      (cases_eq k i))
+      v.side f (omega (arith, v.ceil))
 
-    pub widened_strain : strain w' n + tense w i ≡ strain w n + (5 * size w i - (4 * r + 3))
-    widened_strain = rw (← ap₂ (λ (a b : ℕ). 5 * a - (4 * b + 3)) (m.sizes i h) m.place.1) (upto_one (tense w) (tense w') n i h
-        (λ k kn ne. ap₂ (λ (a b : ℕ). 5 * a - (4 * b + 3)) (m.sizes k kn) (m.others k kn ne).1))
-
--- lists that have just been moved have their quarter
-pub rested : (w w' : List ℕ) (n : ℕ) → ((k : ℕ) → k < n → (size w' k ≡ size w k) × (room w' k ≡ size w k + size w k / 4)) → strain w' n ≡ 0
-rested w w' n f = upto_none (tense w') n (λ k kn. omega (arith, (f k kn).0, (f k kn).1))
+-- segments that have just been moved have their quarter
+pub rested : (t t' : Table) → segs t' ≡ segs t → ((k : ℕ) → k < length t.segments → (nth t' k).room ≡ length (nth t k).words + length (nth t k).words / 4) → strain t' ≡ 0
+rested t t' e f = upto_none (λ k. tense (nth t' k)) (length t'.segments)
+    (λ k kn. omega (arith, f k (omega (arith, same_count t' t e)), ap (length {A = ℕ}) (words_same t' t k e)))
 
 -- What a move costs, in numbers: h is the half, n the table's entries, and the lists lie from low up to hi.
 pub ask_cost : (moved h f ask : ℕ) → moved + 8 * (h / 8 - (f - ask)) ≤ moved + 8 * (h / 8 - (f - 0)) + 8 * ask
@@ -228,30 +237,17 @@ stay_cost p st te len more ro x t e = omega arith
 
 pub shifted_trans : (s s₁ s₂ : Layout) → Shifted s s₁ → Shifted s₁ s₂ → Shifted s s₂
 shifted_trans s s₁ s₂ a b =
-    record {
-      half = b.half ∙ a.half;
-      count = b.count ∙ a.count;
-      total = b.total ∙ a.total;
-      same = rw a.count at b.same ∙ a.same;
-      sizes = λ k h. b.sizes k (rw a.count h) ∙ a.sizes k h;
-      used = λ k h. b.used k (rw a.count h) ∙ a.used k h;
-    }
+    record { half = b.half ∙ a.half; total = b.total ∙ a.total; same = b.same ∙ a.same; used = b.used ∙ a.used }
 
-pub live_back : (w : List ℕ) (half n i : ℕ) → get_or (lives w half n) i false ≡ true → (i < n) × (mark w i ≡ 1)
-live_back w half n i e = ⊎_elim
-    (λ (h : i < n). (h, eqb-true (mark w i) 1 (sym (lives_at w half n i ∙ marks_at w n i h) ∙ e)))
-    (λ (h : n ≤ i). absurd (false≢true (sym (dead_past w half n i h) ∙ e)))
-    (cases_lt i n)
+pub live_back : (t : Table) (half i : ℕ) → get_or (lives t half) i false ≡ true → (i < length t.segments) × ((nth t i).used ≡ true)
+live_back t half i e = let u = sym (lives_at t half i) ∙ e in (there t i u, u)
 
 pub sum_fits : (len more half : ℕ) → len ≤ half → more ≤ half → half < 2 ^ 60 →
     Fits w64 (len + more) × Fits w64 (len + more + (len + more) / 2) × Fits w64 (len + more + (len + more) / 2 + 8)
 sum_fits len more half a b c = (omega arith, omega arith, omega arith)
 
-pub dead_empty : (w : List ℕ) (half n hi low total hint : ℕ) → Inv w half n hi low total hint → (i : ℕ) → get_or (lives w half n) i false ≡ false → get_or (lists w half n) i [] ≡ []
-dead_empty w half n hi low total hint v i e = ⊎_elim
-    (λ (h : i < n). dead_old w half n hi low total hint v i h (λ q. false≢true (sym e ∙ live_is w half n i h q)))
-    (λ (h : n ≤ i). past_old w half n hi low total hint v i h)
-    (cases_lt i n)
+pub dead_empty : (t : Table) (half hi low total hint : ℕ) → Inv t half hi low total hint → (i : ℕ) → get_or (lives t half) i false ≡ false → get_or (lists t half) i [] ≡ []
+dead_empty t half hi low total hint v i e = lists_at t half i ∙ v.empty i (sym (lives_at t half i) ∙ e)
 
 -- a list that does not change
 pub set_same : {X : Type 0} (xs : List X) (i : ℕ) (x d : X) → get_or xs i d ≡ x → xs ≡ set xs i x

@@ -1,12 +1,13 @@
 -- The lists of a store, and sums over them.
 use Rattle.std.proofs.Common.{◌≡◌, ℕ, zero, suc, ◌-◌, ◌<◌, ◌≤◌, Bool, true, false, ◌||◌, ltb, ◌≢◌, ◌⊎◌, List, [], ◌∷◌, ◌++◌, length, get_or, set, replicate, sym, refl, ap, ◌∙◌, ⊎_elim, arith}
-use Rattle.std.proofs.lemmas.List.{ext_get_or, length-append, length-replicate, length-set, get_or_append_left, get_or-append_right, get_or-replicate, get_or_past, set-append_left, set-get_or, set_past, get_or-set_same, get_or-set_other}
+use Rattle.std.proofs.lemmas.List.{ext_get_or, length-append, length-replicate, length-set, get_or_append_left, get_or-append_right, get_or-replicate, get_or_past, get_or-set_same, get_or-set_other}
 use Rattle.std.proofs.lemmas.List.Sums.{sum_by-append, sum_by-cons}
-use Rattle.std.proofs.lemmas.Bool.{cases_eq, cases_lt, or_right, lt-ltb, eq-eqb, ne_eqb}
-use Rattle.segments.specs.Layout.{mark, segs, marks, need}
+use Rattle.std.proofs.lemmas.Bool.{cases_eq, cases_lt, or_right, lt-ltb, false≢true}
+use Rattle.segments.specs.Layout.{need}
+use Rattle.segments.specs.Table.{Segment, Table, nth, segs, marks}
 use Rattle.store.specs.Sums.{extent}
 use Rattle.store.specs.Layout.{lists, lives}
-use Rattle.segments.proofs.Table.{length_segs, length_marks, marks_at, marks_past, segs_past}
+use Rattle.segments.proofs.Placed.{segs_at, marks_at, length_segs, length_marks, nth_past}
 
 -- a list with values d behind it
 pub padded_at : {X : Type 0} (xs : List X) (m i : ℕ) (d : X) → get_or (xs ++ replicate m d) i d ≡ get_or xs i d
@@ -18,60 +19,59 @@ padded_at xs m i d = ⊎_elim
     (cases_lt (i - length xs) m) ∙ sym (get_or_past xs i d h))
     (cases_lt i (length xs))
 
-module _ (w : List ℕ) (half n : ℕ) where
-  pub lists_at : (i : ℕ) → get_or (lists w half n) i [] ≡ get_or (segs w n) i []
+module _ (t : Table) (half : ℕ) where
+  pub lists_at : (i : ℕ) → get_or (lists t half) i [] ≡ (nth t i).words
   unfolding lists
-  lists_at i = padded_at (segs w n) (half - n) i []
+  lists_at i = padded_at (segs t) (half - length t.segments) i [] ∙ segs_at t i
 
-  pub lives_at : (i : ℕ) → get_or (lives w half n) i false ≡ get_or (marks w n) i false
+  pub lives_at : (i : ℕ) → get_or (lives t half) i false ≡ (nth t i).used
   unfolding lives
-  lives_at i = padded_at (marks w n) (half - n) i false
+  lives_at i = padded_at (marks t) (half - length t.segments) i false ∙ marks_at t i
 
-  pub length_lists : n ≤ half → length (lists w half n) ≡ half
+  pub length_lists : length t.segments ≤ half → length (lists t half) ≡ half
   unfolding lists
-  length_lists h = length-append (segs w n) (replicate (half - n) []) ∙ omega (arith, length_segs w n, length-replicate {A = List ℕ} (half - n) [])
+  length_lists h = length-append (segs t) (replicate (half - length t.segments) []) ∙ omega (arith, length_segs t, length-replicate {A = List ℕ} (half - length t.segments) [])
 
-  pub length_lives : n ≤ half → length (lives w half n) ≡ half
+  pub length_lives : length t.segments ≤ half → length (lives t half) ≡ half
   unfolding lives
-  length_lives h = length-append (marks w n) (replicate (half - n) false) ∙ omega (arith, length_marks w n, length-replicate (half - n) false)
+  length_lives h = length-append (marks t) (replicate (half - length t.segments) false) ∙ omega (arith, length_marks t, length-replicate (half - length t.segments) false)
 
-  pub live_is : (i : ℕ) → i < n → mark w i ≡ 1 → get_or (lives w half n) i false ≡ true
-  live_is i h e = lives_at i ∙ marks_at w n i h ∙ eq-eqb (mark w i) 1 e
+-- a segment in use is there
+pub there : (t : Table) (i : ℕ) → (nth t i).used ≡ true → i < length t.segments
+there t i e = ⊎_elim
+    (λ (h : i < length t.segments). h)
+    (λ (h : length t.segments ≤ i). absurd (false≢true (sym (ap (λ (s : Segment). s.used) (nth_past t i h)) ∙ e)))
+    (cases_lt i (length t.segments))
 
-  pub dead_is : (i : ℕ) → i < n → mark w i ≢ 1 → get_or (lives w half n) i false ≡ false
-  dead_is i h e = lives_at i ∙ marks_at w n i h ∙ ne_eqb (mark w i) 1 e
+-- the same lists in other segments
+pub lists_by : (t t' : Table) (half : ℕ) → length t.segments ≤ half → length t'.segments ≤ half → ((k : ℕ) → (nth t' k).words ≡ (nth t k).words) → lists t' half ≡ lists t half
+lists_by t t' half h h' f =
+    ext_get_or [] (lists t' half) (lists t half) (length_lists t' half h' ∙ sym (length_lists t half h))
+    (λ k lt. lists_at t' half k ∙ f k ∙ sym (lists_at t half k))
 
-  pub dead_past : (i : ℕ) → n ≤ i → get_or (lives w half n) i false ≡ false
-  dead_past i h = lives_at i ∙ marks_past w n i h
-
--- the same lists by other words
-pub lists_by : (w w' : List ℕ) (half n n' : ℕ) → n ≤ half → n' ≤ half → ((k : ℕ) → get_or (segs w' n') k [] ≡ get_or (segs w n) k []) → lists w' half n' ≡ lists w half n
-lists_by w w' half n n' h h' f =
-    ext_get_or [] (lists w' half n') (lists w half n) (length_lists w' half n' h' ∙ sym (length_lists w half n h))
-    (λ k lt. lists_at w' half n' k ∙ f k ∙ sym (lists_at w half n k))
-
-pub lives_by : (w w' : List ℕ) (half n n' : ℕ) → n ≤ half → n' ≤ half → ((k : ℕ) → get_or (marks w' n') k false ≡ get_or (marks w n) k false) → lives w' half n' ≡ lives w half n
-lives_by w w' half n n' h h' f =
-    ext_get_or false (lives w' half n') (lives w half n) (length_lives w' half n' h' ∙ sym (length_lives w half n h))
-    (λ k lt. lives_at w' half n' k ∙ f k ∙ sym (lives_at w half n k))
+pub lives_by : (t t' : Table) (half : ℕ) → length t.segments ≤ half → length t'.segments ≤ half → ((k : ℕ) → (nth t' k).used ≡ (nth t k).used) → lives t' half ≡ lives t half
+lives_by t t' half h h' f =
+    ext_get_or false (lives t' half) (lives t half) (length_lives t' half h' ∙ sym (length_lives t half h))
+    (λ k lt. lives_at t' half k ∙ f k ∙ sym (lives_at t half k))
 
 -- list i is now x
-pub lists_set : (w w' : List ℕ) (half n i : ℕ) (x : List ℕ) → (n ≤ i → x ≡ []) → segs w' n ≡ set (segs w n) i x → lists w' half n ≡ set (lists w half n) i x
-unfolding lists
-lists_set w w' half n i x p e = ⊎_elim
-    (λ (h : i < n). ap (λ (y : List (List ℕ)). y ++ replicate (half - n) []) e ∙ sym (set-append_left (segs w n) (replicate (half - n) []) i x (omega (arith, length_segs w n))))
-    (λ (h : n ≤ i). ap (λ (y : List (List ℕ)). y ++ replicate (half - n) []) (e ∙ set_past (segs w n) i x (omega (arith, length_segs w n))) ∙
-    sym (ap (set (lists w half n) i) (p h ∙ sym (lists_at w half n i ∙ segs_past w n i h)) ∙ set-get_or (lists w half n) i []))
-    (cases_lt i n)
+pub lists_set : (t t' : Table) (half i : ℕ) (x : List ℕ) → length t.segments ≤ half → length t'.segments ≤ half → (half ≤ i → x ≡ []) → (nth t' i).words ≡ x →
+    ((k : ℕ) → k ≢ i → (nth t' k).words ≡ (nth t k).words) → lists t' half ≡ set (lists t half) i x
+lists_set t t' half i x h h' p e f =
+    ext_get_or [] (lists t' half) (set (lists t half) i x) (length_lists t' half h' ∙ sym (length-set (lists t half) i x ∙ length_lists t half h))
+    (λ k lt. lists_at t' half k ∙ ⊎_elim
+    (λ (q : k ≡ i). rw q (e ∙ sym (get_or-set_same (lists t half) i x [] (omega (arith, length_lists t half h, length_lists t' half h')))))
+    (λ (q : k ≢ i). f k q ∙ sym (get_or-set_other (lists t half) i k x [] q ∙ lists_at t half k))
+    (cases_eq k i))
 
 -- the number i is now marked b
-pub lives_set : (w w' : List ℕ) (half n n' i : ℕ) (b : Bool) → n ≤ half → n' ≤ half → i < half → get_or (marks w' n') i false ≡ b →
-    ((k : ℕ) → k ≢ i → get_or (marks w' n') k false ≡ get_or (marks w n) k false) → lives w' half n' ≡ set (lives w half n) i b
-lives_set w w' half n n' i b h h' l e f =
-    ext_get_or false (lives w' half n') (set (lives w half n) i b) (length_lives w' half n' h' ∙ sym (length-set (lives w half n) i b ∙ length_lives w half n h))
-    (λ k lt. lives_at w' half n' k ∙ ⊎_elim
-    (λ (q : k ≡ i). rw q (e ∙ sym (get_or-set_same (lives w half n) i b false (omega (arith, length_lives w half n h)))))
-    (λ (q : k ≢ i). f k q ∙ sym (get_or-set_other (lives w half n) i k b false q ∙ lives_at w half n k))
+pub lives_set : (t t' : Table) (half i : ℕ) (b : Bool) → length t.segments ≤ half → length t'.segments ≤ half → (nth t' i).used ≡ b →
+    ((k : ℕ) → k ≢ i → (nth t' k).used ≡ (nth t k).used) → lives t' half ≡ set (lives t half) i b
+lives_set t t' half i b h h' e f =
+    ext_get_or false (lives t' half) (set (lives t half) i b) (length_lives t' half h' ∙ sym (length-set (lives t half) i b ∙ length_lives t half h))
+    (λ k lt. lives_at t' half k ∙ ⊎_elim
+    (λ (q : k ≡ i). rw q (e ∙ sym (get_or-set_same (lives t half) i b false (omega (arith, length_lives t half h, length_lives t' half h')))))
+    (λ (q : k ≢ i). f k q ∙ sym (get_or-set_other (lives t half) i k b false q ∙ lives_at t half k))
     (cases_eq k i))
 
 need_none : (m : ℕ) → need (replicate m []) ≡ 0
@@ -79,9 +79,9 @@ unfolding need
 need_none zero = refl
 need_none (suc m) = sum_by-cons (length {A = ℕ}) [] (replicate m []) ∙ omega (arith, need_none m)
 
-pub need_lists : (w : List ℕ) (half n : ℕ) → need (lists w half n) ≡ need (segs w n)
+pub need_lists : (t : Table) (half : ℕ) → need (lists t half) ≡ need (segs t)
 unfolding lists need
-need_lists w half n = sum_by-append length (segs w n) (replicate (half - n) []) ∙ omega (arith, need_none (half - n))
+need_lists t half = sum_by-append length (segs t) (replicate (half - length t.segments) []) ∙ omega (arith, need_none (half - length t.segments))
 
 -- the last number in use
 pub extent_is : (bs : List Bool) (n : ℕ) → ((m : ℕ) → n ≡ suc m → get_or bs m false ≡ true) → ((k : ℕ) → n ≤ k → get_or bs k false ≡ false) → extent bs ≡ n
@@ -101,7 +101,8 @@ extent_is (b ∷ bs) (suc (suc n)) t d =
     let e : (b || ltb 0 (extent bs)) ≡ true = or_right b (ltb 0 (extent bs)) (lt-ltb 0 (extent bs) (omega arith)) in
     rw (e, a) (omega arith)
 
-pub extent_lives : (w : List ℕ) (half n : ℕ) → (n ≡ 0) ⊎ (mark w (n - 1) ≡ 1) → extent (lives w half n) ≡ n
-extent_lives w half n t = extent_is (lives w half n) n
-    (λ m q. live_is w half n m (omega arith) (⊎_elim (λ (z : n ≡ 0). absurd (omega arith)) (λ (z : mark w (n - 1) ≡ 1). let y : n - 1 ≡ m = omega arith in rw y at z) t))
-    (λ k h. dead_past w half n k h)
+pub extent_lives : (t : Table) (half : ℕ) → (length t.segments ≡ 0) ⊎ ((nth t (length t.segments - 1)).used ≡ true) → extent (lives t half) ≡ length t.segments
+extent_lives t half e = extent_is (lives t half) (length t.segments)
+    (λ m q. lives_at t half m ∙ ⊎_elim (λ (z : length t.segments ≡ 0). absurd (omega arith))
+    (λ (z : (nth t (length t.segments - 1)).used ≡ true). let y : length t.segments - 1 ≡ m = omega arith in rw y at z) e)
+    (λ k h. lives_at t half k ∙ ap (λ (s : Segment). s.used) (nth_past t k h))

@@ -1,11 +1,13 @@
--- A store by its fields: the words, with a table in front, and where the lists lie in them.
-use Rattle.std.specs.Prelude.{◌≡◌, ℕ, ◌+◌, ◌-◌, ◌*◌, ◌/◌, ◌<◌, ◌≤◌, Bool, false, ◌≢◌, ◌⊎◌, List, [], ◌++◌, length, replicate, slice_index_or}
-use Rattle.segments.specs.Layout.{mark, segs, marks, Good, Within, need}
+-- A store by its fields: the segments, and where they lie.
+use Rattle.std.specs.Prelude.{◌≡◌, ℕ, ◌+◌, ◌-◌, ◌*◌, ◌/◌, ◌^◌, ◌<◌, ◌≤◌, Bool, true, false, ◌⊎◌, List, [], ◌++◌, length, replicate}
+use Rattle.segments.specs.Layout.{need}
+use Rattle.segments.specs.Table.{Table, nth, segs, marks, Within}
 
+-- Half of the words lent; the segments lie in the words from low up to hi; they hold `total` words; those with a number below the hint
+-- are in use; so many words have been moved so far.
 pub record Layout : Type 0 where
-  pub words : List ℕ
+  pub table : Table
   pub half : ℕ
-  pub count : ℕ
   pub hi : ℕ
   pub low : ℕ
   pub total : ℕ
@@ -13,23 +15,23 @@ pub record Layout : Type 0 where
   pub moved : ℕ
 
 -- as many lists as a half has words; those behind the table are empty and not in use
-unfoldable pub lists : List ℕ → ℕ → ℕ → List (List ℕ)
-lists w half n = segs w n ++ replicate (half - n) []
+unfoldable pub lists : Table → ℕ → List (List ℕ)
+lists t half = segs t ++ replicate (half - length t.segments) []
 
-unfoldable pub lives : List ℕ → ℕ → ℕ → List Bool
-lives w half n = marks w n ++ replicate (half - n) false
+unfoldable pub lives : Table → ℕ → List Bool
+lives t half = marks t ++ replicate (half - length t.segments) false
 
--- The words: a table of n entries in front; the lists lie in the words from low up to hi, the end of the first half or of the second.
-pub record Inv (w : List ℕ) (half n hi low total hint : ℕ) : Type 0 where
-  pub good : Good w n
-  pub within : Within w 0 n low hi
+-- The lists lie in the words from low up to hi, the end of the first half or of the second, and the table in front of both.
+pub record Inv (t : Table) (half hi low total hint : ℕ) : Type 0 where
+  pub within : Within t 0 low hi
   pub side : (hi ≡ half) ⊎ (hi ≡ half + half)
-  pub floor : hi + 8 * n ≤ low + half
+  pub floor : hi + 8 * length t.segments ≤ low + half
   pub ceil : low ≤ hi
-  pub long : half + half ≤ length w
-  pub sum : total ≡ need (segs w n)
-  pub bound : total + total / 4 + 8 * n + half / 8 ≤ half
-  pub tight : (n ≡ 0) ⊎ (mark w (n - 1) ≡ 1)
-  pub known : hint ≤ n
-  pub below : (k : ℕ) → k < hint → mark w k ≡ 1
-  pub empty : (k : ℕ) → k < n → mark w k ≢ 1 → slice_index_or (segs w n) k [] ≡ []
+  pub long : half + half ≤ t.lent
+  pub small : half < 2 ^ 60
+  pub sum : total ≡ need (segs t)
+  pub bound : total + total / 4 + 8 * length t.segments + half / 8 ≤ half
+  pub tight : (length t.segments ≡ 0) ⊎ ((nth t (length t.segments - 1)).used ≡ true)
+  pub known : hint ≤ length t.segments
+  pub below : (k : ℕ) → k < hint → (nth t k).used ≡ true
+  pub empty : (k : ℕ) → (nth t k).used ≡ false → (nth t k).words ≡ []

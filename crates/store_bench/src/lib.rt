@@ -1,4 +1,4 @@
-// What the bench in bench/store calls: rounds of pushes into the lists of one store.
+//! What the bench in bench/store calls: rounds of pushes into the lists of one store.
 #![tactic(auto)]
 
 ghost use Rattle.std.specs.Prelude.{◌≡◌};
@@ -11,9 +11,10 @@ fn open_lists(st: &mut Store, lists: usize) {
     }
 }
 
-// Pushes `count` words, one list after another, and counts those that found room.
+/// Pushes `count` words, one list after another, and counts those that found room.
 fn grow(st: &mut Store, lists: usize, count: u32) -> u32 {
     let mut done: u32 = 0;
+    // Counted as bench/store/bench.rs does for `Vec`, so that both sides run the same loop; `touch` too.
     let mut at = 0;
     for k in 0..count {
         if st.push(at, k).is_ok() {
@@ -30,7 +31,7 @@ fn shrink(st: &mut Store, lists: usize, size: usize) {
     }
 }
 
-// What a machine does for a byte: asks how long a list is, reads its last word, puts a word behind it and another in its place, and cuts it again.
+/// What a machine does for a byte: asks how long a list is, reads its last word, puts a word behind it and another in its place, and cuts it again.
 fn touch(st: &mut Store, lists: usize, count: u32) -> u32 {
     let mut seen: u32 = 0;
     let mut at = 0;
@@ -46,18 +47,41 @@ fn touch(st: &mut Store, lists: usize, count: u32) -> u32 {
     seen
 }
 
-// Makes lists 0 up to `last`, fills them, and touches them one after another.
-pub fn store_bench_touch(words: &mut [u32], last: usize, fill: u32, count: u32) -> u32 {
-    let Some(mut st) = store_in(words) else {
-        return 0;
-    };
+/// A store with lists 0 up to `last`, and so many words in them.
+fn filled(words: &mut [u32], last: usize, fill: u32) -> Option<Store<'_>> {
+    let mut st = store_in(words)?;
     open_lists(&mut st, last.saturating_add(1));
     let _ = grow(&mut st, last, fill);
-    touch(&mut st, last, count)
+    Some(st)
 }
 
-// Makes lists 0 up to `last`, fills them to `size` words each, and then pushes `pushes` words and cuts the lists again, `rounds` times;
-// the answer is how many pushes of the rounds found room.
+/// How many pushes of the rounds found room, and how many words were moved.
+#[derive(Drop)]
+struct Work {
+    pushed: u64,
+    moved: usize,
+}
+
+/// Pushes `pushes` words and cuts the lists to `size` words each, `rounds` times.
+fn push_rounds(mut st: Store, last: usize, size: usize, pushes: u32, rounds: u32) -> Work {
+    let mut pushed: u64 = 0;
+    for _k in 0..rounds {
+        pushed = pushed.wrapping_add(u64::from(grow(&mut st, last, pushes)));
+        shrink(&mut st, last.saturating_add(1), size);
+    }
+    Work {
+        pushed,
+        moved: st.moved(),
+    }
+}
+
+/// Makes lists 0 up to `last`, fills them, and touches them one after another.
+pub fn store_bench_touch(words: &mut [u32], last: usize, fill: u32, count: u32) -> u32 {
+    filled(words, last, fill).map_or(0, |mut st| touch(&mut st, last, count))
+}
+
+/// Makes lists 0 up to `last`, fills them to `size` words each, and then pushes `pushes` words and cuts the lists again, `rounds` times;
+/// the answer is how many pushes of the rounds found room.
 pub fn store_bench_rounds(
     words: &mut [u32],
     last: usize,
@@ -66,20 +90,10 @@ pub fn store_bench_rounds(
     pushes: u32,
     rounds: u32,
 ) -> u64 {
-    let Some(mut st) = store_in(words) else {
-        return 0;
-    };
-    open_lists(&mut st, last.saturating_add(1));
-    let _ = grow(&mut st, last, fill);
-    let mut done: u64 = 0;
-    for _k in 0..rounds {
-        done = done.wrapping_add(grow(&mut st, last, pushes) as u64);
-        shrink(&mut st, last.saturating_add(1), size);
-    }
-    done
+    filled(words, last, fill).map_or(0, |st| push_rounds(st, last, size, pushes, rounds).pushed)
 }
 
-// How many words the same moves.
+/// How many words the same moves.
 pub fn store_bench_moved(
     words: &mut [u32],
     last: usize,
@@ -88,14 +102,5 @@ pub fn store_bench_moved(
     pushes: u32,
     rounds: u32,
 ) -> usize {
-    let Some(mut st) = store_in(words) else {
-        return 0;
-    };
-    open_lists(&mut st, last.saturating_add(1));
-    let _ = grow(&mut st, last, fill);
-    for _k in 0..rounds {
-        let _ = grow(&mut st, last, pushes);
-        shrink(&mut st, last.saturating_add(1), size);
-    }
-    st.moved()
+    filled(words, last, fill).map_or(0, |st| push_rounds(st, last, size, pushes, rounds).moved)
 }

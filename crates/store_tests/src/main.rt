@@ -1,4 +1,4 @@
-// Long runs on a small store, each step compared with a `Vec<Vec<u32>>`.
+//! Long runs on a small store, each step compared with a `Vec<Vec<u32>>`.
 #![tactic(auto)]
 
 ghost use Rattle.std.specs.Prelude.{◌≡◌};
@@ -9,7 +9,7 @@ mod tests;
 
 use anyhow::anyhow;
 use mirror::{LISTS, Mirror};
-use std::alloc::{AllocError, Global};
+use std::alloc::AllocError;
 use store::{Store, store_in};
 
 const TEXT: [u32; 24] = [
@@ -17,78 +17,109 @@ const TEXT: [u32; 24] = [
     17711, 28657, 4294967295,
 ];
 
-// One step that makes lists longer, for the most part.
-fn rise(m: &mut Mirror, st: &mut Store, heap: Global) -> Result<(), AllocError> {
+/// A step that makes lists longer, for the most part.
+#[derive(Clone, Copy)]
+enum Rise {
+    Fresh,
+    FreshBlock,
+    Extend,
+    Append,
+    Swap,
+    Push,
+}
+
+/// A step that makes lists shorter, for the most part.
+#[derive(Clone, Copy)]
+enum Fall {
+    Free,
+    Remove,
+    Truncate,
+    Set,
+    Pop,
+}
+
+/// How often each comes.
+const RISES: [Rise; 8] = [
+    Rise::Fresh,
+    Rise::Extend,
+    Rise::Append,
+    Rise::Swap,
+    Rise::Push,
+    Rise::Push,
+    Rise::Push,
+    Rise::Push,
+];
+
+const FALLS: [Fall; 6] = [
+    Fall::Free,
+    Fall::Truncate,
+    Fall::Set,
+    Fall::Pop,
+    Fall::Pop,
+    Fall::Pop,
+];
+
+fn lengthen(m: &mut Mirror, st: &mut Store) -> Result<(), AllocError> {
     let i = m.pick(LISTS + 1);
-    match m.pick_kind(8) {
-        0 => {
+    match m.choose(&RISES, Rise::FreshBlock) {
+        Rise::Fresh => {
             m.fresh(st);
             Ok(())
         }
-        8 => {
+        Rise::FreshBlock => {
             let k = m.pick(4);
             m.fresh_block(st, k);
             Ok(())
         }
-        1 => {
+        Rise::Extend => {
             let n = m.pick(24);
             m.extend(st, i, &TEXT[0..n])
         }
-        2 => {
+        Rise::Append => {
             let j = m.pick(LISTS + 1);
-            m.append(st, heap, i, j)
+            m.append(st, i, j)
         }
-        3 => {
+        Rise::Swap => {
             let j = m.pick(LISTS);
             m.swap(st, i, j);
             Ok(())
         }
-        _ => {
+        Rise::Push => {
             let v = m.pick(1000000) as u32;
             m.push(st, i, v)
         }
     }
 }
 
-// One step that makes lists shorter, for the most part.
-fn fall(m: &mut Mirror, st: &mut Store) {
+fn shorten(m: &mut Mirror, st: &mut Store) {
     let i = m.pick(LISTS + 1);
     let len = m.len(i);
-    match m.pick_kind(6) {
-        0 => m.free(st, i),
-        6 => m.remove(st, i),
-        1 => m.truncate(st, i, len / 2),
-        2 => {
+    match m.choose(&FALLS, Fall::Remove) {
+        Fall::Free => m.free(st, i),
+        Fall::Remove => m.remove(st, i),
+        Fall::Truncate => m.truncate(st, i, len / 2),
+        Fall::Set => {
             let j = m.pick(len);
             m.set(st, i, j, 77);
         }
-        _ => m.pop(st, i),
+        Fall::Pop => m.pop(st, i),
     }
 }
 
-// Fills and empties by turns.
-fn run(m: &mut Mirror, st: &mut Store, heap: Global, rounds: u32) -> Result<(), AllocError> {
+/// Fills and empties by turns.
+fn run(m: &mut Mirror, st: &mut Store, rounds: u32) -> Result<(), AllocError> {
     for _k in 0..rounds {
         let up = m.pick(60);
         let down = m.pick(24);
-        climb(m, st, heap, up)?;
-        sink(m, st, down);
+        for _k in 0..up {
+            lengthen(m, st)?;
+        }
+        for _k in 0..down {
+            shorten(m, st);
+        }
         m.compare(st);
     }
     Ok(())
-}
-
-fn climb(m: &mut Mirror, st: &mut Store, heap: Global, steps: usize) -> Result<(), AllocError> {
-    for _k in 0..steps {
-        rise(m, st, heap)?;
-    }
-    Ok(())
-}
-
-fn sink(m: &mut Mirror, st: &mut Store, steps: usize) {
-    for _k in 0..steps {
-        fall(m, st);
-    }
 }
 
 fn main(rt: HostRuntime) -> anyhow::Result<()> {
@@ -99,7 +130,7 @@ fn main(rt: HostRuntime) -> anyhow::Result<()> {
             return Err(anyhow!("no store"));
         };
         let mut m = Mirror::new(heap, size, 7)?;
-        run(&mut m, &mut st, heap, 2000)?;
+        run(&mut m, &mut st, 2000)?;
         let right = if m.wrong == 0 { "all right" } else { "WRONG" };
         println!(rt;
             "{size} words: {} operations, {} moves, {} refusals, {right}",

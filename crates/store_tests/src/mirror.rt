@@ -1,19 +1,20 @@
-// A `Vec<Vec<u32>>` beside a store, which has to say the same.
+//! A list of lists beside a store, which has to say the same.
 ghost use Rattle.std.specs.Prelude.{◌≡◌, ◌≤◌};
 
 use std::alloc::{AllocError, Global};
 use store::{Refusal, Store};
 
-// How many numbers are used.
+/// How many numbers are used.
 pub const LISTS: usize = 12;
 
 #[derive(Drop)]
 pub struct Mirror {
-    lists: Vec<Vec<u32>>,
-    live: Vec<bool>,
+    heap: Global,
+    /// None at a number that is not in use.
+    lists: Vec<Option<Vec<u32>>>,
     half: usize,
     seed: u64,
-    // Whether numbers are also taken in a row, and given back by the last in use.
+    /// Whether numbers are also taken in a row, and given back by the last in use.
     pub in_blocks: bool,
     pub ops: u64,
     pub moves: u64,
@@ -21,26 +22,15 @@ pub struct Mirror {
     pub wrong: u64,
 }
 
-fn same(a: Result<(), Refusal>, b: Result<(), Refusal>) -> bool {
-    match (a, b) {
-        (Ok(()), Ok(())) => true,
-        (Err(x), Err(y)) => x == y,
-        (Ok(()), Err(_)) => false,
-        (Err(_), Ok(())) => false,
-    }
-}
-
 impl Mirror {
     pub fn new(heap: Global, words: usize, seed: u64) -> Result<Self, AllocError> {
         let mut lists = Vec::new(heap);
-        let mut live = Vec::new(heap);
         for _k in 0..LISTS {
-            lists.push(Vec::new(heap))?;
-            live.push(false)?;
+            lists.push(None)?;
         }
         Ok(Mirror {
+            heap,
             lists,
-            live,
             half: words / 2,
             seed,
             in_blocks: false,
@@ -51,7 +41,7 @@ impl Mirror {
         })
     }
 
-    // A number below `below`, and 0 where there is none.
+    /// A number below `below`, and 0 where there is none.
     pub fn pick(&mut self, below: usize) -> usize
         ensures { result ≤ below }
     {
@@ -65,9 +55,11 @@ impl Mirror {
         (self.seed >> 33) as usize % below
     }
 
-    // One of so many kinds of steps, and of one kind more where numbers come in blocks.
-    pub fn pick_kind(&mut self, kinds: u32) -> usize {
-        self.pick(kinds as usize + usize::from(self.in_blocks))
+    /// One of several kinds of steps, and of one kind more where numbers come in blocks.
+    pub fn choose<T: Copy>(&mut self, kinds: &[T], in_blocks: T) -> T {
+        let count = kinds.len().wrapping_add(usize::from(self.in_blocks));
+        let k = self.pick(count);
+        kinds.get(k).copied().unwrap_or(in_blocks)
     }
 
     fn check(&mut self, right: bool) {
@@ -76,33 +68,47 @@ impl Mirror {
         }
     }
 
-    pub fn len(&self, i: usize) -> usize {
+    /// One operation is done: was the answer right?
+    fn done(&mut self, right: bool) {
+        self.ops = self.ops.wrapping_add(1);
+        self.check(right);
+    }
+
+    /// The words of list i, and none where it is not in use.
+    fn list(&self, i: usize) -> &[u32] {
         match self.lists.get(i) {
-            Some(l) => l.len(),
-            None => 0,
+            Some(Some(list)) => list.as_slice(),
+            _ => &[],
         }
     }
 
-    pub fn total(&self) -> usize {
-        let mut n: usize = 0;
-        for l in self.lists.iter() {
-            n = n.wrapping_add(l.len());
-        }
-        n
+    pub fn len(&self, i: usize) -> usize {
+        self.list(i).len()
     }
 
-    // Behind the last number in use.
+    fn total(&self) -> usize {
+        let mut total: usize = 0;
+        for i in 0..LISTS {
+            total = total.wrapping_add(self.len(i));
+        }
+        total
+    }
+
+    fn alive(&self, i: usize) -> bool {
+        matches!(self.lists.get(i), Some(Some(_)))
+    }
+
+    /// Behind the last number in use.
     fn extent(&self) -> usize {
-        let mut end: usize = 0;
-        for (i, b) in self.live.iter().enumerate() {
-            if *b {
-                end = i.wrapping_add(1);
+        for i in (0..LISTS).rev() {
+            if self.alive(i) {
+                return i + 1;
             }
         }
-        end
+        0
     }
 
-    // The sum that says whether there is room.
+    /// The sum that says whether there is room.
     fn enough(&self, ask: usize) -> bool {
         let total = self.total();
         let sum = total
@@ -112,121 +118,87 @@ impl Mirror {
         sum.wrapping_add(ask) <= self.half
     }
 
-    fn alive(&self, i: usize) -> bool {
-        match self.live.get(i) {
-            Some(b) => *b,
-            None => false,
-        }
-    }
-
-    // What a list of m words has to be told.
+    /// What a list of m words has to be told.
     fn expected(&self, i: usize, m: usize) -> Result<(), Refusal> {
         if !self.alive(i) {
             return Err(Refusal::NotInUse);
         }
-        if self.enough(m.wrapping_add(m / 2).wrapping_add(8)) {
-            Ok(())
-        } else {
-            Err(Refusal::NoRoom)
+        if !self.enough(m.wrapping_add(m / 2).wrapping_add(8)) {
+            return Err(Refusal::NoRoom);
         }
+        Ok(())
     }
 
-    // One operation is done, which moved so many words: was the answer right, and were all lists moved, and not list i alone?
-    fn done(
+    /// List i was to have more words, which moved so many: was the answer right, and were all lists moved, and not list i alone?
+    /// The words go behind it here too.
+    fn grown(
         &mut self,
-        want: Result<(), Refusal>,
+        i: usize,
+        more: &[u32],
         got: Result<(), Refusal>,
         moved: usize,
-        len: usize,
-    ) {
-        self.ops = self.ops.wrapping_add(1);
+    ) -> Result<(), AllocError> {
+        let len = self.len(i);
+        let want = self.expected(i, len.wrapping_add(more.len()));
         if got.is_err() {
             self.refusals = self.refusals.wrapping_add(1);
         }
         if moved > len {
             self.moves = self.moves.wrapping_add(1);
         }
-        self.check(same(want, got));
+        self.done(got == want);
+        if got.is_ok() {
+            if let Some(Some(list)) = self.lists.get_mut(i) {
+                list.extend_from_slice(more)?;
+            }
+        }
+        Ok(())
     }
 
     pub fn push(&mut self, st: &mut Store, i: usize, v: u32) -> Result<(), AllocError> {
-        let len = self.len(i);
-        let want = self.expected(i, len.wrapping_add(1));
-        let moved = st.moved();
+        let before = st.moved();
         let got = st.push(i, v);
-        self.done(want, got, st.moved().wrapping_sub(moved), len);
-        if got.is_ok() {
-            if let Some(l) = self.lists.get_mut(i) {
-                l.push(v)?;
-            }
-        }
-        Ok(())
+        self.grown(i, &[v], got, st.moved().wrapping_sub(before))
     }
 
     pub fn extend(&mut self, st: &mut Store, i: usize, xs: &[u32]) -> Result<(), AllocError> {
-        let len = self.len(i);
-        let want = self.expected(i, len.wrapping_add(xs.len()));
-        let moved = st.moved();
+        let before = st.moved();
         let got = st.extend(i, xs);
-        self.done(want, got, st.moved().wrapping_sub(moved), len);
-        if got.is_ok() {
-            if let Some(l) = self.lists.get_mut(i) {
-                l.extend_from_slice(xs)?;
-            }
-        }
-        Ok(())
+        self.grown(i, xs, got, st.moved().wrapping_sub(before))
     }
 
-    pub fn append(
-        &mut self,
-        st: &mut Store,
-        heap: Global,
-        i: usize,
-        j: usize,
-    ) -> Result<(), AllocError> {
-        let len = self.len(i);
-        let more = match self.lists.get(j) {
-            Some(l) => Vec::from_slice(heap, l.as_slice())?,
-            None => Vec::new(heap),
-        };
-        let want = self.expected(i, len.wrapping_add(more.len()));
-        let moved = st.moved();
+    pub fn append(&mut self, st: &mut Store, i: usize, j: usize) -> Result<(), AllocError> {
+        let more = Vec::from_slice(self.heap, self.list(j))?;
+        let before = st.moved();
         let got = st.append(i, j);
-        self.done(want, got, st.moved().wrapping_sub(moved), len);
-        if got.is_ok() {
-            if let Some(l) = self.lists.get_mut(i) {
-                l.extend_from_slice(more.as_slice())?;
-            }
-        }
-        Ok(())
+        self.grown(i, more.as_slice(), got, st.moved().wrapping_sub(before))
     }
 
     pub fn pop(&mut self, st: &mut Store, i: usize) {
         let got = st.pop(i);
-        let mut want = None;
-        if let Some(l) = self.lists.get_mut(i) {
-            want = l.pop();
-        }
-        self.ops = self.ops.wrapping_add(1);
-        self.check(got == want);
+        let want = match self.lists.get_mut(i) {
+            Some(Some(list)) => list.pop(),
+            _ => None,
+        };
+        self.done(got == want);
     }
 
     pub fn truncate(&mut self, st: &mut Store, i: usize, m: usize) {
         st.truncate(i, m);
-        if let Some(l) = self.lists.get_mut(i) {
-            l.truncate(m);
+        if let Some(Some(list)) = self.lists.get_mut(i) {
+            list.truncate(m);
         }
-        self.ops = self.ops.wrapping_add(1);
+        self.done(true);
     }
 
     pub fn set(&mut self, st: &mut Store, i: usize, j: usize, v: u32) {
         st.set(i, j, v);
-        if let Some(l) = self.lists.get_mut(i) {
-            if let Some(x) = l.get_mut(j) {
+        if let Some(Some(list)) = self.lists.get_mut(i) {
+            if let Some(x) = list.get_mut(j) {
                 *x = v;
             }
         }
-        self.ops = self.ops.wrapping_add(1);
+        self.done(true);
     }
 
     pub fn swap(&mut self, st: &mut Store, i: usize, j: usize) {
@@ -235,35 +207,32 @@ impl Mirror {
         if both && i < self.lists.len() && j < self.lists.len() {
             self.lists.swap(i, j);
         }
-        self.ops = self.ops.wrapping_add(1);
-        self.check(got == both);
+        self.done(got == both);
     }
 
-    fn first_dead(&self) -> usize {
-        for (i, b) in self.live.iter().enumerate() {
-            if !*b {
-                return i;
-            }
+    /// Number i comes into use, with an empty list, or goes out of it.
+    fn mark(&mut self, i: usize, used: bool) {
+        let heap = self.heap;
+        if let Some(list) = self.lists.get_mut(i) {
+            *list = used.then(|| Vec::new(heap));
         }
-        self.live.len()
     }
 
     pub fn fresh(&mut self, st: &mut Store) {
-        let first = self.first_dead();
-        if first >= LISTS {
+        let first = (0..LISTS).find(|i| !self.alive(*i));
+        let Some(first) = first else {
             return;
-        }
+        };
         let room = first < self.extent() || self.enough(8);
-        let moved = st.moved();
+        let before = st.moved();
         let got = st.fresh();
-        if st.moved() != moved {
+        if st.moved() != before {
             self.moves = self.moves.wrapping_add(1);
         }
-        self.ops = self.ops.wrapping_add(1);
         if got.is_none() {
             self.refusals = self.refusals.wrapping_add(1);
         }
-        self.check(got == if room { Some(first) } else { None });
+        self.done(got == room.then_some(first));
         if room {
             self.mark(first, true);
         }
@@ -271,77 +240,56 @@ impl Mirror {
 
     pub fn free(&mut self, st: &mut Store, i: usize) {
         st.free(i);
-        self.forget(i);
-        self.ops = self.ops.wrapping_add(1);
+        self.mark(i, false);
+        self.done(true);
     }
 
-    // As many numbers in a row, behind the last in use.
+    /// As many numbers in a row, behind the last in use.
     pub fn fresh_block(&mut self, st: &mut Store, k: usize) {
         let first = self.extent();
-        if first.wrapping_add(k) > LISTS {
+        let end = first.wrapping_add(k);
+        if end > LISTS {
             return;
         }
         let room = self.enough(k.wrapping_mul(8));
         let got = st.fresh_block(k);
-        self.ops = self.ops.wrapping_add(1);
-        self.check(got == if room { Some(first) } else { None });
+        self.done(got == room.then_some(first));
         if room {
-            for j in 0..k {
-                self.mark(first.wrapping_add(j), true);
+            for i in first..end {
+                self.mark(i, true);
             }
         }
     }
 
-    // The last list in use takes the place of list i.
+    /// The last list in use takes the place of list i.
     pub fn remove(&mut self, st: &mut Store, i: usize) {
         let last = self.extent().wrapping_sub(1);
         let moves = self.alive(i) && i != last;
         let got = st.remove(i);
-        self.ops = self.ops.wrapping_add(1);
-        self.check(got == if moves { Some(last) } else { None });
+        self.done(got == moves.then_some(last));
         if !self.alive(i) || i >= self.lists.len() || last >= self.lists.len() {
             return;
         }
         self.lists.swap(i, last);
-        self.forget(last);
+        self.mark(last, false);
     }
 
-    // Number i is not in use any more.
-    fn forget(&mut self, i: usize) {
-        if let Some(l) = self.lists.get_mut(i) {
-            l.clear();
-        }
-        self.mark(i, false);
-    }
-
-    fn mark(&mut self, i: usize, used: bool) {
-        if let Some(b) = self.live.get_mut(i) {
-            *b = used;
-        }
-    }
-
-    // Whether list i is the same in both, word for word.
+    /// Whether list i is the same in both, word for word.
     fn agrees(&self, st: &Store, i: usize) -> bool {
-        let Some(l) = self.lists.get(i) else {
-            return false;
-        };
-        if st.in_use(i) != self.alive(i) || st.len(i) != l.len() {
+        let list = self.list(i);
+        if st.in_use(i) != self.alive(i) || st.len(i) != list.len() || st.words(i) != list {
             return false;
         }
-        let words = st.words(i);
-        for (k, x) in l.iter().enumerate() {
-            if st.get(i, k) != *x || words.get(k).copied() != Some(*x) {
+        for (k, x) in list.iter().enumerate() {
+            if st.get(i, k) != *x {
                 return false;
             }
         }
-        let half = l.len() / 2;
-        let rest = st.words_from(i, half);
-        words.len() == l.len()
-            && rest.len() == l.len() - half
-            && rest.first().copied() == l.get(half).copied()
+        let half = list.len() / 2;
+        st.words_from(i, half) == &list[half..]
     }
 
-    // Compares all lists.
+    /// Compares all lists.
     pub fn compare(&mut self, st: &Store) {
         for i in 0..LISTS {
             let right = self.agrees(st, i);

@@ -1,4 +1,4 @@
-// Long runs in which numbers also come in blocks, and refusals at the exact word.
+//! Long runs in which numbers also come in blocks, and refusals at the exact word.
 ghost use Rattle.std.specs.Prelude.{◌≡◌};
 ghost use Rattle.store.specs.Held.{bounds};
 ghost use Rattle.store.specs.Dense.{Dense};
@@ -10,7 +10,7 @@ use std::process::Abort;
 use std::test::Fail;
 use store::{Store, store_in};
 
-// A long run in so many words; what the mirror has seen then.
+/// A long run in so many words; what the mirror has seen then.
 fn long_run(heap: Global, size: usize) -> Result<Mirror, Fail> {
     let mut words = vec![in heap; 0u32; size]?;
     let Some(mut st) = store_in(words.as_mut_slice()) else {
@@ -18,7 +18,7 @@ fn long_run(heap: Global, size: usize) -> Result<Mirror, Fail> {
     };
     let mut m = Mirror::new(heap, size, 7)?;
     m.in_blocks = true;
-    run(&mut m, &mut st, heap, 2000)?;
+    run(&mut m, &mut st, 2000)?;
     Ok(m)
 }
 
@@ -50,7 +50,7 @@ fn large_stores(rt: HostRuntime) -> Result<(), Fail> {
     Ok(())
 }
 
-// How many words one list takes, in so many words lent.
+/// How many words one list takes, in so many words lent.
 fn most_pushes(heap: Global, size: usize) -> Result<usize, Fail> {
     let mut words = vec![in heap; 0u32; size]?;
     let Some(mut st) = store_in(words.as_mut_slice()) else {
@@ -65,23 +65,16 @@ fn most_pushes(heap: Global, size: usize) -> Result<usize, Fail> {
     Ok(st.len(0))
 }
 
-// How many numbers there are, in so many words lent.
+/// How many numbers there are, in so many words lent.
 fn most_lists(heap: Global, size: usize) -> Result<usize, Fail> {
     let mut words = vec![in heap; 0u32; size]?;
     let Some(mut st) = store_in(words.as_mut_slice()) else {
         return Ok(0);
     };
-    let mut n: usize = 0;
-    for _k in 0..1000 {
-        if st.fresh().is_none() {
-            break;
-        }
-        n = n.wrapping_add(1);
-    }
-    Ok(n)
+    Ok((0..1000).take_while(|_| st.fresh().is_some()).count())
 }
 
-// The sixth word asks for 6 + 3 + 8, beside 5 + 1 that are held, 8 for the list and an eighth of the half: 31 and the eighth, so a half of 35.
+/// The sixth word asks for 6 + 3 + 8, beside 5 + 1 that are held, 8 for the list and an eighth of the half: 31 and the eighth, so a half of 35.
 #[test]
 fn push_refused_at_the_word(rt: HostRuntime) -> Result<(), Fail> {
     let heap = rt.alloc();
@@ -92,7 +85,7 @@ fn push_refused_at_the_word(rt: HostRuntime) -> Result<(), Fail> {
     Ok(())
 }
 
-// The fourth list asks for 8, beside 24 for those in use: 32 and the eighth, so a half of 36.
+/// The fourth list asks for 8, beside 24 for those in use: 32 and the eighth, so a half of 36.
 #[test]
 fn fresh_refused_at_the_word(rt: HostRuntime) -> Result<(), Fail> {
     let heap = rt.alloc();
@@ -102,9 +95,9 @@ fn fresh_refused_at_the_word(rt: HostRuntime) -> Result<(), Fail> {
     Ok(())
 }
 
-// Two blocks of two lists behind list 0; the last goes to the place of the first, and then goes out itself.
+/// Two blocks of two lists behind list 0; the last goes to the place of the first, and then goes out itself.
 fn two_blocks(rt: &impl Abort, st: &mut Store) -> Result<(), Fail>
-    requires dense { Dense (bounds st.old).1 }
+    requires { Dense (bounds st.old).1 }
 {
     assert_eq!(rt; st.fresh_block(5), Some(0));
     st.push(3, 30)?;

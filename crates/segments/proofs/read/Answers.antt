@@ -3,4 +3,4 @@ use Rattle.segments.proofs.read.Goals as goal
 
 pub returns : goal.returns
 unfolding field
-returns c = c.wide.ensures
+returns c = rw (← c.place.ensures.is) c.wide.ensures

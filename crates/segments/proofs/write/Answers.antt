@@ -3,4 +3,4 @@ use Rattle.segments.proofs.write.Goals as goal
 
 pub returns : goal.returns
 unfolding filed
-returns c = c.put_wide.ensures
+returns c = rw (← c.place.ensures.is) c.put_wide.ensures

@@ -1,7 +1,7 @@
-use Rattle.std.proofs.Common.{ℕ, ◌<◌, Bool, false, List, [], length, get_or, set, sym, ap, ◌∙◌, ap₂, arith}
+use Rattle.std.proofs.Common.{ℕ, ◌<◌, Bool, false, List, [], length, get_or, set, sym, ap, ap₂, ◌∙◌, arith}
 use Rattle.std.proofs.lemmas.List.{get_or-set_same}
 use Rattle.store.specs.Layout.{lists, lives}
-use Rattle.store.specs.Held.{Held, bounds, model}
+use Rattle.store.specs.Held.{Held, model, bounds}
 use Rattle.store.proofs.Totals.{lists_at, length_lists}
 use Rattle.store.proofs.StoreLaws.{few, live_back, dead_empty, set_same}
 use Rattle.store.proofs.Store.free.Goals as goal
@@ -12,8 +12,8 @@ returns-then-not-in_use c =
     let s = c.args.self.now in
     let e = sym c.if-not-in_use.ensures.says in
     record {
-      same = ap (λ (y : List Bool). (s.half, y)) (set_same (lives s.words s.half s.count) c.args.i false false e);
-      after = set_same (lists s.words s.half s.count) c.args.i [] [] (dead_empty _ _ _ _ _ _ _ c.in_use.ensures.held c.args.i e);
+      same = ap (λ (y : List Bool). (s.half, y)) (set_same (lives s.table s.half) c.args.i false false e);
+      after = set_same (lists s.table s.half) c.args.i [] [] (dead_empty _ _ _ _ _ _ c.in_use.ensures.held c.args.i e);
       cost = omega arith;
     }
 
@@ -25,10 +25,10 @@ release-requires c =
     let i = c.args.i in
     let e = c.clear.ensures in
     let v = c.in_use.ensures.held in
-    let a = live_back s.words s.half s.count i (sym c.if-not-in_use.ensures.says) in
-    let b = live_back u.words u.half u.count i (ap (λ (p : ℕ × List Bool). get_or p.1 i false) e.same ∙ sym c.if-not-in_use.ensures.says) in
-    let l : i < length (lists s.words s.half s.count) = omega (arith, a.0, few _ _ _ _ _ _ _ v, length_lists s.words s.half s.count (few _ _ _ _ _ _ _ v)) in
-    record { i_lt_count = b.0; i_value = sym (lists_at u.words u.half u.count i) ∙ ap (λ (y : List (List ℕ)). get_or y i []) e.after ∙ get_or-set_same (lists s.words s.half s.count) i [] [] l }
+    let a = live_back s.table s.half i (sym c.if-not-in_use.ensures.says) in
+    let b = live_back u.table u.half i (ap (λ (p : ℕ × List Bool). get_or p.1 i false) e.same ∙ sym c.if-not-in_use.ensures.says) in
+    let l : i < length (lists s.table s.half) = omega (arith, a.0, few _ _ _ _ _ _ v, length_lists s.table s.half (few _ _ _ _ _ _ v)) in
+    record { there = b.0; bare = sym (lists_at u.table u.half i) ∙ ap (λ (y : List (List ℕ)). get_or y i []) e.after ∙ get_or-set_same (lists s.table s.half) i [] [] l }
 
 pub returns : goal.returns
 unfolding bounds model

@@ -1,8 +1,8 @@
+use Rattle.std.proofs.Common.{◌≡◌, ℕ, ◌*◌, Bool, List, length, refl, ap₂, arith}
 use Rattle.store.specs.Fields.{fields}
-use Rattle.std.proofs.Common.{◌≡◌, ℕ, ◌*◌, Bool, List, refl, ap₂, arith}
-use Rattle.store.specs.Held.{Sound, bounds, model}
-use Rattle.store.proofs.StoreLaws.{few, extent_of, enough_yes, enough_no}
+use Rattle.store.specs.Held.{Sound, model, bounds}
 use Rattle.store.proofs.Totals.{length_lives}
+use Rattle.store.proofs.StoreLaws.{few, extent_of, enough_yes, enough_no}
 use Rattle.store.proofs.Density.{dense_taken_at}
 use Rattle.store.proofs.Blocks.{Taken, taken_none, taken_more}
 use Rattle.store.proofs.Store.fresh_block.Goals as goal
@@ -15,7 +15,7 @@ returns-then-k-spare c =
       dense = λ d. d;
       same = refl;
       after = refl;
-      says = rw (enough_no _ _ _ _ _ _ _ v (8 * c.args.k) (omega (arith, c.if-k-spare.true, rw (← c.self.view_is) at c.spare.ensures.left)));
+      says = rw (enough_no _ _ _ _ _ _ v (8 * c.args.k) (omega (arith, c.if-k-spare.true, rw (← c.self.view_is) at c.spare.ensures.left)));
       cost = omega arith;
     })
 
@@ -33,15 +33,16 @@ returns c =
     let s = fields c.self.inside in
     let v : Sound s = c.self.invariant in
     let k = c.args.k in
+    let n = length s.table.segments in
     let q : c.loop-j._j ≡ k = omega arith in
     let y : Taken c.args.self.now c.loop-j.self k = rw q at c.loop-j.invariant in
     let t : Taken s c.loop-j.self k = rw (← c.self.view_is) at y in
     let p = rw (← c.self.view_is) at c.spare.ensures.left in
-    let x = extent_of _ _ _ _ _ _ _ v in
+    let x = extent_of _ _ _ _ _ _ v in
     rw (← c.self.view_is) (record {
-      dense = dense_taken_at _ _ s.count k x (omega (arith, c.if-k-spare.false, p, length_lives s.words s.half s.count (few _ _ _ _ _ _ _ v))) t.live;
+      dense = dense_taken_at _ _ n k x (omega (arith, c.if-k-spare.false, p, length_lives s.table s.half (few _ _ _ _ _ _ v))) t.live;
       same = rw x (ap₂ (λ (h : ℕ) (y : List Bool). (h, y)) t.half t.live);
       after = t.same;
-      says = rw (enough_yes _ _ _ _ _ _ _ v (8 * k) (omega (arith, c.if-k-spare.false, p)), x);
+      says = rw (enough_yes _ _ _ _ _ _ v (8 * k) (omega (arith, c.if-k-spare.false, p)), x, c.count-first.ensures);
       cost = t.cost;
     })

@@ -1,5 +1,5 @@
 use Rattle.std.proofs.Common.{refl, arith}
-use Rattle.store.specs.Held.{shifts, spent}
+use Rattle.store.specs.Held.{spent, shifts}
 use Rattle.store.proofs.Store.moved.Goals as goal
 
 pub returns : goal.returns

@@ -1,9 +1,9 @@
-use Rattle.store.specs.Fields.{fields}
 use Rattle.std.proofs.Common.{◌≡◌, ℕ, Bool, List, [], get_or, set, sym, refl, ap, ◌∙◌, arith}
-use Rattle.std.proofs.lemmas.List.{set-set, set-get_or}
-use Rattle.store.specs.Held.{Sound, bounds, model, spent}
+use Rattle.std.proofs.lemmas.List.{set-get_or, set-set}
+use Rattle.store.specs.Fields.{fields}
+use Rattle.store.specs.Held.{Sound, model, bounds, spent}
 use Rattle.store.proofs.StoreLaws.{live_back}
-use Rattle.store.proofs.Numbers.{exchanged_inv, exchanged_lists, exchanged_lives}
+use Rattle.store.proofs.Numbers.{exchanged_inv, exchanged_lists, exchanged_lives, exchanged_strain, exchanged_length}
 use Rattle.store.proofs.Store.swap.Goals as goal
 
 twice : (m : List (List ℕ)) (i j : ℕ) → i ≡ j → m ≡ set (set m i (get_or m j [])) j (get_or m i [])
@@ -22,31 +22,30 @@ pub exchange-requires : goal.exchange-requires
 unfolding bounds
 exchange-requires c =
     let s = fields c.self.inside in
-    let a = live_back s.words s.half s.count c.args.i (sym (rw (← c.self.view_is) at c.if-not-in_use.ensures.says)) in
-    let b = live_back s.words s.half s.count c.args.j (sym (rw (← c.self.view_is) at c.if-not-in_use-2.ensures.says)) in
-    record { good = c.self.invariant.good; i_lt_n = a.0; j_lt_n = b.0; i_nonzero = c.if-i-j.false }
+    let v : Sound s = c.self.invariant in
+    let a = live_back s.table s.half c.args.i (sym (rw (← c.self.view_is) at c.if-not-in_use.ensures.says)) in
+    let b = live_back s.table s.half c.args.j (sym (rw (← c.self.view_is) at c.if-not-in_use-2.ensures.says)) in
+    record { i_there = a.0; j_there = b.0; apart = c.if-i-j.false }
 
 pub invariant_of-self : goal.invariant_of-self
 unfolding bounds
 invariant_of-self c =
     let s = fields c.self.inside in
     let v : Sound s = c.self.invariant in
-    let a = live_back s.words s.half s.count c.args.i (sym (rw (← c.self.view_is) at c.if-not-in_use.ensures.says)) in
-    let b = live_back s.words s.half s.count c.args.j (sym (rw (← c.self.view_is) at c.if-not-in_use-2.ensures.says)) in
-    exchanged_inv _ _ _ _ _ _ _ v _ _ _ c.exchange.ensures a.0 b.0 c.if-i-j.false a.1 b.1 c.exchange.auto.w
+    let a = live_back s.table s.half c.args.i (sym (rw (← c.self.view_is) at c.if-not-in_use.ensures.says)) in
+    let b = live_back s.table s.half c.args.j (sym (rw (← c.self.view_is) at c.if-not-in_use-2.ensures.says)) in
+    rw c.exchange.ensures (exchanged_inv _ _ _ _ _ _ v _ _ c.if-i-j.false a.1 b.1)
 
 pub returns : goal.returns
 unfolding bounds model spent
 returns c =
     let s = fields c.self.inside in
     let v : Sound s = c.self.invariant in
-    let a = live_back s.words s.half s.count c.args.i (sym (rw (← c.self.view_is) at c.if-not-in_use.ensures.says)) in
-    let b = live_back s.words s.half s.count c.args.j (sym (rw (← c.self.view_is) at c.if-not-in_use-2.ensures.says)) in
-    let x = c.exchange.ensures in
-    let l = c.exchange.auto.w in
-    rw (← c.self.view_is) (record {
-      same = ap (λ (y : List Bool). (s.half, y)) (exchanged_lives _ _ _ _ _ _ _ v _ _ _ x a.0 b.0 c.if-i-j.false a.1 b.1 l);
-      after = exchanged_lists _ _ _ _ _ _ _ v _ _ _ x a.0 b.0 c.if-i-j.false a.1 b.1 l;
+    let a = live_back s.table s.half c.args.i (sym (rw (← c.self.view_is) at c.if-not-in_use.ensures.says)) in
+    let b = live_back s.table s.half c.args.j (sym (rw (← c.self.view_is) at c.if-not-in_use-2.ensures.says)) in
+    rw (← c.self.view_is, c.exchange.ensures) (record {
+      same = ap (λ (y : List Bool). (s.half, y)) (exchanged_lives _ _ _ _ _ _ v _ _ c.if-i-j.false a.1 b.1);
+      after = exchanged_lists _ _ _ _ _ _ v _ _ c.if-i-j.false a.1 b.1;
       says = rw (← rw (← c.self.view_is) at c.if-not-in_use.ensures.says, ← rw (← c.self.view_is) at c.if-not-in_use-2.ensures.says);
-      cost = omega (arith, x.strained);
+      cost = omega (arith, exchanged_strain _ _ _ _ _ _ v _ _ c.if-i-j.false a.1 b.1, exchanged_length _ _ _ _ _ _ v _ _ c.if-i-j.false a.1 b.1);
     })

@@ -1,11 +1,12 @@
+use Rattle.std.proofs.Common.{◌≡◌, ◌-◌, ◌<◌, ◌≤◌, false, [], length, get_or, take, sym, refl, ap, ⊎_elim, arith}
+use Rattle.std.proofs.lemmas.List.{length-set, take_all, length-take-le, set-get_or}
+use Rattle.std.proofs.lemmas.Bool.{cases_lt}
+use Rattle.segments.specs.Table.{Segment, nth}
+use Rattle.segments.proofs.Placed.{nth_past}
 use Rattle.store.specs.Fields.{fields}
-use Rattle.std.proofs.Common.{◌≡◌, ◌-◌, ◌<◌, ◌≤◌, ◌≢◌, ◌+◌, List, ℕ, [], length, get_or, take, sym, refl, arith}
-use Rattle.std.proofs.lemmas.List.{length-take-le, take_all, set-get_or}
-use Rattle.segments.specs.Layout.{mark, segs, Changed}
-use Rattle.store.specs.Layout.{Layout, lists}
 use Rattle.store.specs.Held.{Sound, model, bounds, spent}
 use Rattle.store.proofs.Totals.{lists_at}
-use Rattle.store.proofs.StoreLaws.{there, old_size, size_le, dead_old, past_old, changed_inv, changed_model, changed_bounds, shrunk_strain}
+use Rattle.store.proofs.StoreLaws.{size_le, changed_inv, changed_model, changed_bounds, shrunk_strain}
 use Rattle.store.proofs.Store.truncate.Goals as goal
 
 pub returns-then-m-len : goal.returns-then-m-len
@@ -15,33 +16,34 @@ returns-then-m-len c =
     let h : length l ≤ c.args.m = omega (arith, c.if-m-len.true, c.len-len.ensures) in
     record { same = refl; after = sym (rw (take_all c.args.m l h) (set-get_or (model c.args.self.now) c.args.i [])); cost = omega arith }
 
+-- list i is there, and has as many words
 pub cut-requires : goal.cut-requires
 unfolding model
 cut-requires c =
-    let v : Sound (fields c.self.inside) = c.self.invariant in
-    let q = rw (← c.self.view_is) at c.len-len.ensures in
-    let h = there _ _ _ _ _ _ _ v c.args.i c.args.m (omega (arith, c.if-m-len.false, q)) in
-    record { good = v.good; i_lt_n = h; m_bound = omega (arith, c.if-m-len.false, q, old_size _ _ _ _ _ _ _ v c.args.i h) }
+    let s = fields c.self.inside in
+    let i = c.args.i in
+    let m = c.args.m in
+    let v : Sound s = c.self.invariant in
+    let q : c.len-len.result ≡ length (nth s.table i).words = rw lists_at at (rw (← c.self.view_is) at c.len-len.ensures) in
+    let h : m < length (nth s.table i).words = omega (arith, q, c.if-m-len.false) in
+    record {
+      there = ⊎_elim
+          (λ (z : i < length s.table.segments). z)
+          (λ (z : length s.table.segments ≤ i). absurd (omega (arith, ap (λ (y : Segment). length y.words) (nth_past s.table i z))))
+          (cases_lt i (length s.table.segments));
+      within = omega arith;
+    }
 
 pub overflow_sub-self-2 : goal.overflow_sub-self-2
 unfolding model
 overflow_sub-self-2 c =
-    let v : Sound (fields c.self.inside) = c.self.invariant in
-    omega (arith, rw (← c.self.view_is) at c.len-len.ensures, size_le _ _ _ _ _ _ _ v c.args.i)
-
--- list i is cut to its first m words
-module _ (s : Layout) (v : Sound s) (i m : ℕ) (h : m < length (get_or (lists s.words s.half s.count) i [])) where
-  abbrev x : List ℕ
-  x = take m (get_or (lists s.words s.half s.count) i [])
-
-  cut_length : length x ≡ m
-  cut_length = length-take-le m (get_or (lists s.words s.half s.count) i []) (omega arith)
-
-  cut_dead : i < s.count → mark s.words i ≢ 1 → x ≡ []
-  cut_dead a d = rw (dead_old _ _ _ _ _ _ _ v i a d) (take_all m [] (omega arith))
-
-  cut_past : s.count ≤ i → x ≡ []
-  cut_past a = rw (past_old _ _ _ _ _ _ _ v i a) (take_all m [] (omega arith))
+    let s = fields c.self.inside in
+    let i = c.args.i in
+    let m = c.args.m in
+    let v : Sound s = c.self.invariant in
+    let q : c.len-len.result ≡ length (nth s.table i).words = rw lists_at at (rw (← c.self.view_is) at c.len-len.ensures) in
+    let h : m < length (nth s.table i).words = omega (arith, q, c.if-m-len.false) in
+    omega (arith, size_le _ _ _ _ _ _ v i)
 
 pub invariant_of-self : goal.invariant_of-self
 unfolding model
@@ -50,12 +52,13 @@ invariant_of-self c =
     let i = c.args.i in
     let m = c.args.m in
     let v : Sound s = c.self.invariant in
-    let q : c.len-len.result ≡ length (get_or (lists s.words s.half s.count) i []) = rw (← c.self.view_is) at c.len-len.ensures in
-    let h : m < length (get_or (lists s.words s.half s.count) i []) = omega (arith, q, c.if-m-len.false) in
-    let e : Changed s.words c.cut.new.w s.count i (x s v i m h) = rw (lists_at s.words s.half s.count i) c.cut.ensures in
-    let b = size_le _ _ _ _ _ _ _ v i in
-    changed_inv _ _ _ _ _ _ _ v _ i (s.total - (c.len-len.result - m)) (x s v i m h) e c.cut.auto.w (cut_dead s v i m h) (cut_past s v i m h)
-    (omega (arith, cut_length s v i m h, b, q, c.if-m-len.false)) (omega (arith, v.bound))
+    let q : c.len-len.result ≡ length (nth s.table i).words = rw lists_at at (rw (← c.self.view_is) at c.len-len.ensures) in
+    let h : m < length (nth s.table i).words = omega (arith, q, c.if-m-len.false) in
+    let x = take m (nth s.table i).words in
+    let d : (nth s.table i).used ≡ false → x ≡ [] = λ u. rw (v.empty i u) (take_all m [] (omega arith)) in
+    let l : length x ≡ m = length-take-le m (nth s.table i).words (omega arith) in
+    let b = size_le _ _ _ _ _ _ v i in
+    rw c.cut.ensures (changed_inv _ _ _ _ _ _ v i (s.total - (c.len-len.result - m)) x d (omega arith) (omega (arith, v.bound)))
 
 pub returns : goal.returns
 unfolding model bounds spent
@@ -64,14 +67,17 @@ returns c =
     let i = c.args.i in
     let m = c.args.m in
     let v : Sound s = c.self.invariant in
-    let q : c.len-len.result ≡ length (get_or (lists s.words s.half s.count) i []) = rw (← c.self.view_is) at c.len-len.ensures in
-    let h : m < length (get_or (lists s.words s.half s.count) i []) = omega (arith, q, c.if-m-len.false) in
-    let e : Changed s.words c.cut.new.w s.count i (x s v i m h) = rw (lists_at s.words s.half s.count i) c.cut.ensures in
-    let t = s.total - (c.len-len.result - m) in
-    let d = cut_dead s v i m h in
-    let p = cut_past s v i m h in
-    rw (← c.self.view_is) (record {
-      same = changed_bounds _ _ _ _ _ _ _ v _ i t (x s v i m h) e c.cut.auto.w d p;
-      after = changed_model _ _ _ _ _ _ _ v _ i t (x s v i m h) e c.cut.auto.w d p;
-      cost = omega (arith, shrunk_strain _ _ _ _ _ _ _ v _ i t (x s v i m h) e c.cut.auto.w d p (omega (arith, cut_length s v i m h)));
+    let q : c.len-len.result ≡ length (nth s.table i).words = rw lists_at at (rw (← c.self.view_is) at c.len-len.ensures) in
+    let h : m < length (nth s.table i).words = omega (arith, q, c.if-m-len.false) in
+    let x = take m (nth s.table i).words in
+    let d : (nth s.table i).used ≡ false → x ≡ [] = λ u. rw (v.empty i u) (take_all m [] (omega arith)) in
+    let l : length x ≡ m = length-take-le m (nth s.table i).words (omega arith) in
+    rw (← c.self.view_is, c.cut.ensures) (record {
+      same = changed_bounds _ _ _ _ _ _ v i s.total x d;
+      after = rw lists_at (changed_model _ _ _ _ _ _ v i s.total x d);
+      cost = omega (
+        arith,
+        shrunk_strain _ _ _ _ _ _ v i s.total x d (omega arith),
+        length-set s.table.segments i (record { start = (nth s.table i).start; room = (nth s.table i).room; words = x; used = (nth s.table i).used }),
+      );
     })

@@ -1,40 +1,40 @@
+use Rattle.std.proofs.Common.{◌-◌, length, refl, ap, inl, arith}
+use Rattle.std.proofs.lemmas.List.{length-set}
+use Rattle.segments.specs.Table.{Segment, nth}
+use Rattle.segments.proofs.Placed.{nth_same, segs_kept, marks_kept}
 use Rattle.store.specs.Fields.{fields}
-use Rattle.std.proofs.Common.{◌≡◌, ◌+◌, ◌-◌, ◌*◌, ◌≤◌, refl, inl, arith}
 use Rattle.store.specs.Held.{Sound}
-use Rattle.store.proofs.StoreLaws.{widened, widened_strain, widen_cost}
+use Rattle.store.proofs.StoreLaws.{strain_placed, widened, widen_cost}
 use Rattle.store.proofs.Store.widen.Goals as goal
+
+pub overflow_sub-at : goal.overflow_sub-at
+overflow_sub-at c = omega (arith, rw (← c.self.view_is) at c.requires.free, c.self.invariant.side)
 
 pub relocate-requires : goal.relocate-requires
 relocate-requires c =
     let s = fields c.self.inside in
     let p : Sound s = c.self.invariant in
     let r = rw (← c.self.view_is) at c.requires in
-    record { good = p.good; i_lt_n = r.i_lt_count; i_bound = omega (arith, r.len_value, r.len_le_r); n_bound = omega (arith, r.r_bound, p.side); r_in_bounds = omega (arith, r.r_bound, p.side, p.ceil, p.long); free = λ k h. inl (omega (arith, (p.within k (omega arith) h).0, r.r_bound, p.side)) }
-
-pub overflow_sub-at : goal.overflow_sub-at
-overflow_sub-at c = omega (arith, rw (← c.self.view_is) at c.requires.r_bound, c.self.invariant.side)
+    record { there = r.there; fits = omega (arith, r.length_is, r.holds); behind_table = omega (arith, r.free, p.side); in_bounds = omega (arith, r.free, p.side, p.ceil, p.long); free = λ k h. inl (omega (arith, (p.within k (omega arith) h).0, r.free, p.side)) }
 
 pub invariant_of-self : goal.invariant_of-self
 invariant_of-self c =
     let s = fields c.self.inside in
     let p : Sound s = c.self.invariant in
     let r = rw (← c.self.view_is) at c.requires in
-    let e : (s.low - c.args.r) + c.args.r ≡ s.low = omega (arith, r.r_bound, p.side) in
-    let f : s.hi + 8 * s.count ≤ (s.low - c.args.r) + s.half = omega (arith, r.r_bound, p.side) in
-    widened _ _ _ _ _ _ _ p _ _ _ _ c.relocate.ensures r.i_lt_count e f c.relocate.auto.w
+    rw c.relocate.ensures (widened _ _ _ _ _ _ p c.args.i (s.low - c.args.r) c.args.r r.there (omega (arith, r.free, p.side)) (omega (arith, r.free, p.side)))
 
 pub returns : goal.returns
 returns c =
     let s = fields c.self.inside in
     let p : Sound s = c.self.invariant in
     let r = rw (← c.self.view_is) at c.requires in
-    let m = c.relocate.ensures in
-    let e : (s.low - c.args.r) + c.args.r ≡ s.low = omega (arith, r.r_bound, p.side) in
-    let f : s.hi + 8 * s.count ≤ (s.low - c.args.r) + s.half = omega (arith, r.r_bound, p.side) in
-    rw (← c.self.view_is) (record {
-      shifted = record { half = refl; count = refl; total = refl; same = m.same; sizes = m.sizes; used = m.used };
-      wide = m.place.1;
+    let i = c.args.i in
+    let one : Segment = record { start = s.low - c.args.r; room = c.args.r; words = (nth s.table i).words; used = (nth s.table i).used } in
+    rw (← c.self.view_is, c.relocate.ensures) (record {
+      shifted = record { half = refl; total = refl; same = segs_kept s.table i one refl; used = marks_kept s.table i one refl };
+      wide = ap (λ (x : Segment). x.room) (nth_same s.table i one r.there);
       counts = c.saturating_add-self-inside.ensures;
-      cost = widen_cost s.moved c.saturating_add-self-inside.result s.half s.count s.hi s.low c.args.r c.args.len r.r_bound (omega (arith, c.saturating_add-self-inside.ensures));
-      eased = rw r.len_value (widened_strain _ _ _ _ _ _ _ p _ _ _ _ m r.i_lt_count e f c.relocate.auto.w);
+      cost = rw (length-set s.table.segments i one) (widen_cost s.moved c.saturating_add-self-inside.result s.half (length s.table.segments) s.hi s.low c.args.r c.args.len r.free (omega (arith, c.saturating_add-self-inside.ensures)));
+      eased = rw r.length_is (strain_placed s.table i one r.there);
     })
