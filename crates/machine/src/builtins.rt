@@ -1,7 +1,7 @@
 //! Builtin commands: how they begin, and what they do between prints.
-ghost use Rattle.std.specs.Prelude.{◌≡◌, ℕ, ◌+◌, ◌-◌, ◌*◌, ◌%◌, ◌<◌, ◌≤◌, List, [], ◌∷◌, ◌++◌, length, take, drop, nat_le, slice_index_or};
+ghost use Rattle.std.specs.Prelude.{◌≡◌, ℕ, ◌%◌, ◌<◌, ◌≤◌, List, [], ◌∷◌, ◌++◌, length, take, drop, nat_le, slice_index_or};
 ghost use Rattle.syntax.specs.Base.{pick};
-ghost use Rattle.store.specs.Held.{model, bounds};
+ghost use Rattle.store.specs.Held.{model};
 ghost use Rattle.words.specs.Encoding.{shown, rev};
 ghost use Rattle.words.specs.Pushed.{Pushed};
 ghost use Rattle.machine.specs.Arguments.{chosen};

@@ -1,7 +1,6 @@
 //! Words being expanded, in the list behind the frames: a mark before each word, then its bytes.
-ghost use Rattle.std.specs.Prelude.{◌≡◌, ℕ, ◌+◌, ◌<◌, ◌≤◌, List, ◌++◌, length, ◌≢◌};
+ghost use Rattle.std.specs.Prelude.{◌≡◌, ◌≤◌, ◌++◌, length, ◌≢◌};
 ghost use Rattle.code.specs.Layout.{flag};
-ghost use Rattle.store.specs.Held.{model, bounds};
 ghost use Rattle.words.specs.Encoding.{Bytes, coded, mark, patterned, word_length};
 ghost use Rattle.words.specs.Pushed.{Pushed};
 ghost use Rattle.machine.specs.Promises.{Does};

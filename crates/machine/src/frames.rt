@@ -1,5 +1,5 @@
 //! The frames of a process, in the list at its base.
-ghost use Rattle.std.specs.Prelude.{◌≡◌, ℕ, ◌+◌, ◌-◌, ◌*◌, ◌<◌, ◌≤◌, List, [], ◌∷◌, ◌++◌, length, slice_index_or, slice_set};
+ghost use Rattle.std.specs.Prelude.{◌≡◌, ◌≤◌, [], length, slice_index_or, slice_set};
 ghost use Rattle.store.specs.Held.{model, bounds};
 ghost use Rattle.words.specs.Pushed.{Pushed};
 ghost use Rattle.machine.specs.Frames.{words_of, Decodes, framed, top_frame, settled};

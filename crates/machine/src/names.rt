@@ -1,5 +1,5 @@
 //! Builtin commands by their names.
-ghost use Rattle.std.specs.Prelude.{◌≡◌, ℕ, ◌+◌, ◌<◌, ◌≤◌, List, [], ◌∷◌, length};
+ghost use Rattle.std.specs.Prelude.{◌≡◌};
 ghost use Rattle.words.specs.Encoding.{named};
 ghost use Rattle.machine.specs.Commands.{name_of};
 

@@ -1,6 +1,5 @@
 //! Printing on the paper, byte by byte.
-ghost use Rattle.std.specs.Prelude.{◌≡◌, ℕ, ◌+◌, ◌-◌, ◌*◌, ◌%◌, ◌<◌, ◌≤◌, List, [], ◌∷◌, ◌++◌, length};
-ghost use Rattle.store.specs.Held.{model, bounds};
+ghost use Rattle.std.specs.Prelude.{◌≡◌, ℕ, List};
 ghost use Rattle.meaning.specs.Words.{decimal, as_line};
 ghost use Rattle.words.specs.Encoding.{rev};
 ghost use Rattle.words.specs.Pushed.{Pushed};

@@ -1,6 +1,5 @@
 //! One step of a process.
-ghost use Rattle.std.specs.Prelude.{◌≡◌, ℕ, ◌+◌, ◌<◌, ◌≤◌, List, [], ◌∷◌, ◌++◌, length, Ok};
-ghost use Rattle.store.specs.Held.{model, bounds};
+ghost use Rattle.std.specs.Prelude.{◌≡◌, ℕ, List, Ok};
 ghost use Rattle.machine.specs.Decide.{Tree};
 ghost use Rattle.machine.specs.Promises.{Does, Stepped};
 

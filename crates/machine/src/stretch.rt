@@ -1,5 +1,4 @@
 //! Several steps of one process in a row.
-ghost use Rattle.std.specs.Prelude.{◌≡◌, ℕ, ◌+◌, ◌<◌, ◌≤◌, List, [], ◌∷◌, ◌++◌, length};
 ghost use Rattle.store.specs.Held.{model, bounds};
 ghost use Rattle.machine.specs.Stretches.{Onward, Stretched};
 

@@ -1,5 +1,5 @@
 //! The loop: the first in the queue takes a slice of moves, and goes to the back.
-ghost use Rattle.std.specs.Prelude.{◌≡◌, ℕ, ◌+◌, ◌-◌, ◌*◌, ◌/◌, ◌<◌, ◌≤◌, List, [], ◌∷◌, ◌++◌, length, replicate, MatchResult};
+ghost use Rattle.std.specs.Prelude.{◌≡◌, ◌/◌, ◌<◌, length, MatchResult};
 ghost use Rattle.store.specs.Held.{model, bounds};
 ghost use Rattle.scheduler.specs.Lists.{opened, Begun};
 ghost use Rattle.scheduler.specs.Outcomes.{Executed, Goes, at_root};

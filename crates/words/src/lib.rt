@@ -1,7 +1,8 @@
-//! Words pushed onto lists of a store, and how words of the shell and texts are encoded there (specs/Encoding.antt).
+//! Words pushed onto lists of a store, how words of the shell and texts are encoded there (specs/Encoding.antt), and what stands
+//! on the paper (specs/Paper.antt).
 #![tactic(auto)]
 
-ghost use Rattle.std.specs.Prelude.{◌≡◌, ℕ, ◌+◌, ◌-◌, ◌*◌, ◌<◌, ◌≤◌, List, [], ◌∷◌, ◌++◌, length, slice_index_or};
+ghost use Rattle.std.specs.Prelude.{[], slice_index_or};
 ghost use Rattle.store.specs.Held.{model};
 ghost use Rattle.words.specs.Pushed.{Pushed};
 
