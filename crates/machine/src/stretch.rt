@@ -1,4 +1,5 @@
 //! Several steps of one process in a row.
+ghost use Rattle.std.specs.Prelude.{◌≡◌};
 ghost use Rattle.store.specs.Held.{model, bounds};
 ghost use Rattle.machine.specs.Stretches.{Onward, Stretched};
 
@@ -25,6 +26,17 @@ pub struct Stretch {
     pub ending: Result<Ending, Halt>,
 }
 
+fn ended(process: Process, place: usize, moves: u32, ending: Result<Ending, Halt>) -> Stretch
+    ensures { result ≡ record { process = process; place = place; moves = moves; ending = ending } }
+{
+    Stretch {
+        process,
+        place,
+        moves,
+        ending,
+    }
+}
+
 /// Steps of one process, at most so many.
 pub fn run_stretch(
     code: Code<'_>,
@@ -42,14 +54,7 @@ pub fn run_stretch(
     for moves in 0..most {
         let step = match take_step(code, st, paper, place, process) {
             Ok(step) => step,
-            Err(halt) => {
-                return Stretch {
-                    process,
-                    place,
-                    moves,
-                    ending: Err(halt),
-                };
-            }
+            Err(halt) => return ended(process, place, moves, Err(halt)),
         };
         match step {
             Step::Continues(next) => process = next,
@@ -57,20 +62,8 @@ pub fn run_stretch(
                 process = next;
                 place = printed;
             }
-            Step::Exits(n) => {
-                return Stretch {
-                    process,
-                    place,
-                    moves: moves + 1,
-                    ending: Ok(Ending::Exited(n)),
-                };
-            }
+            Step::Exits(n) => return ended(process, place, moves + 1, Ok(Ending::Exited(n))),
         }
     }
-    Stretch {
-        process,
-        place,
-        moves: most,
-        ending: Ok(Ending::Spent),
-    }
+    ended(process, place, most, Ok(Ending::Spent))
 }

@@ -50,6 +50,12 @@ pub fn first_process(root: u32) -> Process
     }
 }
 
+fn ended(printed: usize, end: Result<End, Halt>) -> Outcome
+    ensures { result ≡ record { printed = printed; end = end } }
+{
+    Outcome { printed, end }
+}
+
 // Slices of moves, until the run is over.
 fn run_slices(
     code: Code<'_>,
@@ -69,39 +75,23 @@ fn run_slices(
     // The last slice may be shorter, so the moves are counted here.
     while made < most {
         if first_ready(st).is_none() {
-            return Outcome {
-                printed,
-                end: Ok(End::Still),
-            };
+            return ended(printed, Ok(End::Still));
         }
         let slice = (most - made).min(SLICE);
         let stretch = run_stretch(code, st, paper, printed, process, slice as u32);
         printed = stretch.place;
         let ending = match stretch.ending {
             Ok(ending) => ending,
-            Err(halt) => {
-                return Outcome {
-                    printed,
-                    end: Err(halt),
-                };
-            }
+            Err(halt) => return ended(printed, Err(halt)),
         };
         match ending {
             Ending::Spent => process = stretch.process,
-            Ending::Exited(status) => {
-                return Outcome {
-                    printed,
-                    end: Ok(End::Exited(status)),
-                };
-            }
+            Ending::Exited(status) => return ended(printed, Ok(End::Exited(status))),
         }
         made += slice;
         rotate(st);
     }
-    Outcome {
-        printed,
-        end: Ok(End::Spent),
-    }
+    ended(printed, Ok(End::Spent))
 }
 
 // A store in these words, with the lists of the first process, which is alone in the queue; or there is no room for them.
@@ -123,9 +113,6 @@ pub fn execute(code: Code<'_>, root: u32, most: u64, paper: &mut [u8], words: &m
     let all = words.len();
     match begin(words) {
         Ok(mut st) => run_slices(code, &mut st, most, paper, root, all),
-        Err(_) => Outcome {
-            printed: 0,
-            end: Err(Halt::NoRoom),
-        },
+        Err(_) => ended(0, Err(Halt::NoRoom)),
     }
 }
