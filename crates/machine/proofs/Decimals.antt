@@ -6,6 +6,7 @@ use Rattle.syntax.specs.Base.{pick}
 use Rattle.meaning.specs.Words.{digits, decimal, as_line}
 use Rattle.words.specs.Encoding.{Bytes, rev}
 use Rattle.store.specs.declared.Refusal.{Refusal}
+use Rattle.store.specs.declared.Store.{Store}
 use Rattle.words.specs.Pushed.{Pushed}
 use Rattle.words.proofs.Pushes.{push_nil, push_more, push_fails}
 use Rattle.words.proofs.Texts.{rev_push, rev_length}
@@ -55,24 +56,24 @@ bytes_decimal n = bytes_line (decimal n) (bytes_digits (suc n) n [] tt)
     bytes_line (b ∷ s) h = (h.0, bytes_line s h.1)
 
 -- digits pushed one after the other
-pub record Digits (b : ℕ × List Bool) (i : ℕ) (m m' : List (List ℕ)) (n rest : ℕ) : Type 0 where
+pub record Digits (s s' : Store) (i n rest : ℕ) : Type 0 where
   pub said : List ℕ
-  pub pushed : Pushed b i m m' said (Ok tt)
+  pub pushed : Pushed s s' i said (Ok tt)
   pub whole : said ++ rev (decimal rest) ≡ rev (decimal n)
 
-pub digits_none : {b : ℕ × List Bool} {i : ℕ} {m : List (List ℕ)} (n : ℕ) → Digits b i m m n n
+pub digits_none : {s : Store} {i : ℕ} (n : ℕ) → Digits s s i n n
 digits_none n = record { said = []; pushed = push_nil; whole = refl }
 
-pub digits_next : {b : ℕ × List Bool} {i : ℕ} {m m₁ m₂ : List (List ℕ)} {n rest : ℕ} {u : Unit {0}} → Digits b i m m₁ n rest → 10 ≤ rest → Pushed b i m₁ m₂ ((48 + rest % 10) ∷ []) (Ok u) → Digits b i m m₂ n (rest / 10)
+pub digits_next : {s s₁ s₂ : Store} {i : ℕ} {n rest : ℕ} {u : Unit {0}} → Digits s s₁ i n rest → 10 ≤ rest → Pushed s₁ s₂ i ((48 + rest % 10) ∷ []) (Ok u) → Digits s s₂ i n (rest / 10)
 digits_next {rest = rest} d h p = record { said = d.said ++ ((48 + rest % 10) ∷ []); pushed = push_more d.pushed p; whole = append_assoc d.said ((48 + rest % 10) ∷ []) (rev (decimal (rest / 10))) ∙ sym (ap (λ z. d.said ++ z) (decimal_last rest h)) ∙ d.whole }
 
-pub digits_fails : {b : ℕ × List Bool} {i : ℕ} {m m₁ m₂ : List (List ℕ)} {n rest : ℕ} {v w : Refusal} → Digits b i m m₁ n rest → 10 ≤ rest → Pushed b i m₁ m₂ ((48 + rest % 10) ∷ []) (Err v) → Pushed b i m m₂ (rev (decimal n)) (Err w)
+pub digits_fails : {s s₁ s₂ : Store} {i : ℕ} {n rest : ℕ} {v w : Refusal} → Digits s s₁ i n rest → 10 ≤ rest → Pushed s₁ s₂ i ((48 + rest % 10) ∷ []) (Err v) → Pushed s s₂ i (rev (decimal n)) (Err w)
 digits_fails {rest = rest} d h p = push_fails _ (push_more d.pushed p) (omega (arith, ap length d.whole, length-append d.said (rev (decimal rest)), length-append d.said ((48 + rest % 10) ∷ []), ap length (decimal_last rest h)))
 
-pub digits_last : {b : ℕ × List Bool} {i : ℕ} {m m₁ m₂ : List (List ℕ)} {n rest : ℕ} {r : Result (Unit {0}) Refusal} → Digits b i m m₁ n rest → rest < 10 → Pushed b i m₁ m₂ ((48 + rest) ∷ []) r → Pushed b i m m₂ (rev (decimal n)) r
-digits_last {b} {i} {m} {m₂ = m₂} {rest = rest} {r = r} d h p = subst (λ y. Pushed b i m m₂ y r) (sym (ap (λ z. d.said ++ z) (decimal_one rest h)) ∙ d.whole) (push_more d.pushed p)
+pub digits_last : {s s₁ s₂ : Store} {i : ℕ} {n rest : ℕ} {r : Result (Unit {0}) Refusal} → Digits s s₁ i n rest → rest < 10 → Pushed s₁ s₂ i ((48 + rest) ∷ []) r → Pushed s s₂ i (rev (decimal n)) r
+digits_last {s} {s₂ = s₂} {i = i} {rest = rest} {r = r} d h p = subst (λ y. Pushed s s₂ i y r) (sym (ap (λ z. d.said ++ z) (decimal_one rest h)) ∙ d.whole) (push_more d.pushed p)
 
-pub decimal_line : {b : ℕ × List Bool} {i : ℕ} {m m₁ m₂ : List (List ℕ)} (n : ℕ) {u : Unit {0}} {r : Result (Unit {0}) Refusal} → Pushed b i m m₁ (10 ∷ []) (Ok u) → Pushed b i m₁ m₂ (rev (decimal n)) r → Pushed b i m m₂ (rev (as_line (decimal n))) r
+pub decimal_line : {s s₁ s₂ : Store} {i : ℕ} (n : ℕ) {u : Unit {0}} {r : Result (Unit {0}) Refusal} → Pushed s s₁ i (10 ∷ []) (Ok u) → Pushed s₁ s₂ i (rev (decimal n)) r → Pushed s s₂ i (rev (as_line (decimal n))) r
 decimal_line n p q = rw (rev_push (decimal n) 10) (push_more p q)
 
 pub line_longer : (n : ℕ) → 1 ≤ length (rev (as_line (decimal n)))

@@ -3,6 +3,7 @@ use Rattle.std.proofs.Common.{◌≡◌, ℕ, zero, suc, ◌+◌, ◌<◌, Bool,
 use Rattle.std.proofs.lemmas.Bool.{eq-eqb}
 use mathlib.Core.Option.{Option, some, none}
 use Rattle.std.specs.Result.{IsOkAnd}
+use Rattle.store.specs.declared.Store.{Store}
 use Rattle.syntax.specs.Base.{pick, on_some, nth}
 use Rattle.meaning.specs.System.{Control, Frame, Process, System, host_paper, with_processes, with_paper, find_process, replace}
 use Rattle.meaning.specs.Step.{continues, exits, step, settle, move, moves}
@@ -14,17 +15,17 @@ use Rattle.machine.specs.declared.halt.Halt.TheVariants.{NoRoom, PaperFull, Unsu
 use Rattle.machine.specs.declared.stretch.Ending.TheVariants.{Exited as Exited'}
 use Rattle.machine.specs.Represent.{Rest, abstract, Kept, Rep}
 use Rattle.std.proofs.lemmas.List.{length-set, take_more_set, drop-set-lt, drop-drop}
-use Rattle.machine.specs.Promises.{Does, Stepped}
+use Rattle.machine.specs.Promises.{Does, StepsAs, Stepped}
 use Rattle.machine.specs.Stretches.{with_process, Reached, Stands, EndSays}
 use Rattle.machine.proofs.Places.{kept_none, kept_then}
 
 -- a step that prints nothing leaves the paper as it is
-pub lifted : {text code : List ℕ} {b : ℕ × List Bool} {m m' : List (List ℕ)} {o : List ℕ} {place : ℕ} {p : Process'} (a : Result Process' Halt) (r : Result Step Halt) → MatchResult a (λ x. IsOkAnd r (λ y. y ≡ Continues x)) (λ e. r ≡ Err e) → Does text code b m m' p a → Stepped text code b m m' o o place p r
-lifted {text} {code} {b} {m} {m'} {o} {place} {p} (Ok x) (Ok y) e h = subst (λ y. Stepped text code b m m' o o place p (Ok y)) (sym e) (record { says = λ number r c k g. (h.says number r c k g, refl) })
+pub lifted : {text code : List ℕ} {s s' : Store} {o : List ℕ} {place : ℕ} {p : Process'} (a : Result Process' Halt) (r : Result Step Halt) → MatchResult a (λ x. IsOkAnd r (λ y. y ≡ Continues x)) (λ e. r ≡ Err e) → Does text code s s' p a → Stepped text code s s' o o place p r
+lifted {text} {code} {s} {s'} {o} {place} {p} (Ok x) (Ok y) e h = subst (λ y. Stepped text code s s' o o place p (Ok y)) (sym e) (record { same = h.same; steps = record { says = λ number r c k g. (h.says number r c k g, refl) } })
 lifted (Ok x) (Err d) e h = absurd e
-lifted (Err NoRoom) r e h = rw e (record { says = λ number r c k g. (h.says number r c k g, refl) })
-lifted (Err PaperFull) r e h = rw e (record { says = λ number r c k g. absurd (h.says number r c k g) })
-lifted (Err Unsupported) r e h = rw e (record { says = λ number r c k g. (inl (h.says number r c k g), refl) })
+lifted (Err NoRoom) r e h = rw e (record { same = h.same; steps = record { says = λ number r c k g. (h.says number r c k g, refl) } })
+lifted (Err PaperFull) r e h = rw e (record { same = h.same; steps = record { says = λ number r c k g. absurd (h.says number r c k g) } })
+lifted (Err Unsupported) r e h = rw e (record { same = h.same; steps = record { says = λ number r c k g. (inl (h.says number r c k g), refl) } })
 
 -- the process by its number
 found : (ws : List Process) (n : ℕ) (w v : Process) → find_process ws n ≡ some w → v.pid ≡ n → find_process (replace ws n v) n ≡ some v
@@ -87,14 +88,14 @@ pub reach_none : {text code : List ℕ} {number : ℕ → ℕ} {live : List Bool
 reach_none {number = number} {p = p} {r = r} {c = c} {k = k} {s = s} h t = record { c = c; k = k; came = sym (ap (λ z. some (with_process s (abstract number p r c k) z)) (sym t.printed) ∙ ap (λ ws. some (with_paper (with_processes s ws) s.paper)) (itself s.processes r.pid (abstract number p r c k) t.there)); rep = h; kept = kept_none; base = refl; long = refl; within = t.within; behind = refl }
 
 -- one move more
-pub reach_on : {text code : List ℕ} {number : ℕ → ℕ} {b : ℕ × List Bool} {m₀ m m' : List (List ℕ)} {o₀ o o' : List ℕ} {place₀ place : ℕ} {p₀ p p' : Process'} {r : Rest} {c₀ : Control} {k₀ : List Frame} {s : System} {made : ℕ} → Stands number o₀ place₀ p₀ r c₀ k₀ s → Reached text code number b.1 m₀ m o₀ o place p₀ p r s made → Stepped text code b m m' o o' place p (Ok (Continues p')) → Reached text code number b.1 m₀ m' o₀ o' place p₀ p' r s (made + 1)
+pub reach_on : {text code : List ℕ} {number : ℕ → ℕ} {b : ℕ × List Bool} {m₀ m m' : List (List ℕ)} {o₀ o o' : List ℕ} {place₀ place : ℕ} {p₀ p p' : Process'} {r : Rest} {c₀ : Control} {k₀ : List Frame} {s : System} {made : ℕ} → Stands number o₀ place₀ p₀ r c₀ k₀ s → Reached text code number b.1 m₀ m o₀ o place p₀ p r s made → StepsAs text code b m m' o o' place p (Ok (Continues p')) → Reached text code number b.1 m₀ m' o₀ o' place p₀ p' r s (made + 1)
 reach_on {text} {code} {number} {b} {m₀} {m} {m'} {o₀} {o} {o'} {place₀} {place} {p₀} {p} {p'} {r} {c₀} {k₀} {s} {made} t z h =
     let a = h.says number r z.c z.k z.rep in
     let w = abstract number p r z.c z.k in
     let w' = abstract number p' r a.0.c' a.0.k' in
     subst (λ o'. Reached text code number b.1 m₀ m' o₀ o' place p₀ p' r s (made + 1)) (sym a.1) (record { c = a.0.c'; k = a.0.k'; came = moves_more s _ _ made r.pid z.came (moved s (abstract number p₀ r c₀ k₀) w w' r.pid (take place o) (take place o) t.there refl refl (a.0.steps_to (with_process s w (take place o)))); rep = a.0.rep; kept = kept_then z.kept (subst (λ n. Kept n m m') z.base a.0.kept); base = a.0.base ∙ z.base; long = z.long; within = z.within; behind = z.behind })
 
-pub reach_print : {text code : List ℕ} {number : ℕ → ℕ} {b : ℕ × List Bool} {m₀ m m' : List (List ℕ)} {o₀ o o' : List ℕ} {place₀ place q : ℕ} {p₀ p p' : Process'} {r : Rest} {c₀ : Control} {k₀ : List Frame} {s : System} {made : ℕ} → Stands number o₀ place₀ p₀ r c₀ k₀ s → Reached text code number b.1 m₀ m o₀ o place p₀ p r s made → Stepped text code b m m' o o' place p (Ok (Prints p' q)) → Reached text code number b.1 m₀ m' o₀ o' q p₀ p' r s (made + 1)
+pub reach_print : {text code : List ℕ} {number : ℕ → ℕ} {b : ℕ × List Bool} {m₀ m m' : List (List ℕ)} {o₀ o o' : List ℕ} {place₀ place q : ℕ} {p₀ p p' : Process'} {r : Rest} {c₀ : Control} {k₀ : List Frame} {s : System} {made : ℕ} → Stands number o₀ place₀ p₀ r c₀ k₀ s → Reached text code number b.1 m₀ m o₀ o place p₀ p r s made → StepsAs text code b m m' o o' place p (Ok (Prints p' q)) → Reached text code number b.1 m₀ m' o₀ o' q p₀ p' r s (made + 1)
 reach_print {text} {code} {number} {b} {m₀} {m} {m'} {o₀} {o} {o'} {place₀} {place} {q} {p₀} {p} {p'} {r} {c₀} {k₀} {s} {made} t z h =
     let a = h.says number r z.c z.k z.rep in
     let w = abstract number p r z.c z.k in
@@ -106,23 +107,23 @@ reach_print {text} {code} {number} {b} {m₀} {m} {m'} {o₀} {o} {o'} {place₀
     subst (λ q. Reached text code number b.1 m₀ m' o₀ o' q p₀ p' r s (made + 1)) (sym a.1) (subst (λ o'. Reached text code number b.1 m₀ m' o₀ o' (place + 1) p₀ p' r s (made + 1)) (sym a.0.paper) (record { c = a.0.c'; k = a.0.k'; came = moves_more s _ _ made r.pid z.came (moved s (abstract number p₀ r c₀ k₀) w w' r.pid (take place o) (take (place + 1) (set o place x)) t.there refl refl (a.0.steps_to (with_process s w (take place o)) paper ∙ ap (λ e. some (continues w' (with_paper (with_process s w (take place o)) e))) (sym more))); rep = a.0.rep; kept = kept_then z.kept (subst (λ n. Kept n m m') z.base a.0.kept); base = a.0.base ∙ z.base; long = length-set o place x ∙ z.long; within = omega (arith, a.0.inside, length-set o place x); behind = rest }))
 
 -- why a stretch ends
-pub reach_exit : {text code : List ℕ} {number : ℕ → ℕ} {b : ℕ × List Bool} {m₀ m m' : List (List ℕ)} {o₀ o o' : List ℕ} {place₀ place : ℕ} {p₀ p : Process'} {r : Rest} {c₀ : Control} {k₀ : List Frame} {s : System} {made : ℕ} (n most : ℕ) → made < most → Stands number o₀ place₀ p₀ r c₀ k₀ s → Reached text code number b.1 m₀ m o₀ o place p₀ p r s made → Stepped text code b m m' o o' place p (Ok (Exits n)) → EndSays text code b m₀ m' o₀ o' place₀ p₀ most number r s p place (made + 1) (Ok (Exited' n))
+pub reach_exit : {text code : List ℕ} {number : ℕ → ℕ} {b : ℕ × List Bool} {m₀ m m' : List (List ℕ)} {o₀ o o' : List ℕ} {place₀ place : ℕ} {p₀ p : Process'} {r : Rest} {c₀ : Control} {k₀ : List Frame} {s : System} {made : ℕ} (n most : ℕ) → made < most → Stands number o₀ place₀ p₀ r c₀ k₀ s → Reached text code number b.1 m₀ m o₀ o place p₀ p r s made → StepsAs text code b m m' o o' place p (Ok (Exits n)) → EndSays text code b m₀ m' o₀ o' place₀ p₀ most number r s p place (made + 1) (Ok (Exited' n))
 reach_exit {text} {code} {number} {b} {m₀} {m} {m'} {o₀} {o} {o'} {place₀} {place} {p₀} {p} {r} {c₀} {k₀} {s} {made} n most l t z h =
     let a = h.says number r z.c z.k z.rep in
     let w = abstract number p r z.c z.k in
     rw (a.1, a.2) (made, z, refl, omega arith, a.0, moves_more s (with_process s w (take place o)) _ made r.pid z.came (moved_out s (abstract number p₀ r c₀ k₀) w r.pid n (take place o) t.there refl (a.0 (with_process s w (take place o)))))
 
-pub reach_tight : {text code : List ℕ} {number : ℕ → ℕ} {b : ℕ × List Bool} {m₀ m m' : List (List ℕ)} {o₀ o o' : List ℕ} {place : ℕ} {p₀ p : Process'} {r : Rest} {s : System} {made : ℕ} (place₀ most : ℕ) → made < most → Reached text code number b.1 m₀ m o₀ o place p₀ p r s made → Stepped text code b m m' o o' place p (Err NoRoom) → EndSays text code b m₀ m' o₀ o' place₀ p₀ most number r s p place made (Err NoRoom)
+pub reach_tight : {text code : List ℕ} {number : ℕ → ℕ} {b : ℕ × List Bool} {m₀ m m' : List (List ℕ)} {o₀ o o' : List ℕ} {place : ℕ} {p₀ p : Process'} {r : Rest} {s : System} {made : ℕ} (place₀ most : ℕ) → made < most → Reached text code number b.1 m₀ m o₀ o place p₀ p r s made → StepsAs text code b m m' o o' place p (Err NoRoom) → EndSays text code b m₀ m' o₀ o' place₀ p₀ most number r s p place made (Err NoRoom)
 reach_tight {number = number} {m = m} {r = r} place₀ most l z h = let a = h.says number r z.c z.k z.rep in rw a.1 (m, z, l, a.0)
 
-pub reach_full : {text code : List ℕ} {number : ℕ → ℕ} {b : ℕ × List Bool} {m₀ m m' : List (List ℕ)} {o₀ o o' : List ℕ} {place : ℕ} {p₀ p : Process'} {r : Rest} {s : System} {made : ℕ} (place₀ most : ℕ) → made < most → Reached text code number b.1 m₀ m o₀ o place p₀ p r s made → Stepped text code b m m' o o' place p (Err PaperFull) → EndSays text code b m₀ m' o₀ o' place₀ p₀ most number r s p place made (Err PaperFull)
+pub reach_full : {text code : List ℕ} {number : ℕ → ℕ} {b : ℕ × List Bool} {m₀ m m' : List (List ℕ)} {o₀ o o' : List ℕ} {place : ℕ} {p₀ p : Process'} {r : Rest} {s : System} {made : ℕ} (place₀ most : ℕ) → made < most → Reached text code number b.1 m₀ m o₀ o place p₀ p r s made → StepsAs text code b m m' o o' place p (Err PaperFull) → EndSays text code b m₀ m' o₀ o' place₀ p₀ most number r s p place made (Err PaperFull)
 reach_full {number = number} {r = r} place₀ most l z h = let a = h.says number r z.c z.k z.rep in rw (a.1, a.2) (z, l, a.0)
 
-pub reach_beyond : {text code : List ℕ} {number : ℕ → ℕ} {b : ℕ × List Bool} {m₀ m m' : List (List ℕ)} {o₀ o o' : List ℕ} {place : ℕ} {p₀ p : Process'} {r : Rest} {s : System} {made : ℕ} (place₀ most : ℕ) → made < most → Reached text code number b.1 m₀ m o₀ o place p₀ p r s made → Stepped text code b m m' o o' place p (Err Unsupported) → EndSays text code b m₀ m' o₀ o' place₀ p₀ most number r s p place made (Err Unsupported)
+pub reach_beyond : {text code : List ℕ} {number : ℕ → ℕ} {b : ℕ × List Bool} {m₀ m m' : List (List ℕ)} {o₀ o o' : List ℕ} {place : ℕ} {p₀ p : Process'} {r : Rest} {s : System} {made : ℕ} (place₀ most : ℕ) → made < most → Reached text code number b.1 m₀ m o₀ o place p₀ p r s made → StepsAs text code b m m' o o' place p (Err Unsupported) → EndSays text code b m₀ m' o₀ o' place₀ p₀ most number r s p place made (Err Unsupported)
 reach_beyond {number = number} {m = m} {r = r} place₀ most l z h = let a = h.says number r z.c z.k z.rep in rw a.1 (m, z, l, a.0)
 
 -- why a process halted
-pub reach_halt : {text code : List ℕ} {number : ℕ → ℕ} {b : ℕ × List Bool} {m₀ m m' : List (List ℕ)} {o₀ o o' : List ℕ} {place : ℕ} {p₀ p : Process'} {r : Rest} {s : System} {made : ℕ} (halt : Halt) (place₀ most : ℕ) → made < most → Reached text code number b.1 m₀ m o₀ o place p₀ p r s made → Stepped text code b m m' o o' place p (Err halt) → EndSays text code b m₀ m' o₀ o' place₀ p₀ most number r s p place made (Err halt)
+pub reach_halt : {text code : List ℕ} {number : ℕ → ℕ} {b : ℕ × List Bool} {m₀ m m' : List (List ℕ)} {o₀ o o' : List ℕ} {place : ℕ} {p₀ p : Process'} {r : Rest} {s : System} {made : ℕ} (halt : Halt) (place₀ most : ℕ) → made < most → Reached text code number b.1 m₀ m o₀ o place p₀ p r s made → StepsAs text code b m m' o o' place p (Err halt) → EndSays text code b m₀ m' o₀ o' place₀ p₀ most number r s p place made (Err halt)
 reach_halt NoRoom place₀ most l z h = reach_tight place₀ most l z h
 reach_halt PaperFull place₀ most l z h = reach_full place₀ most l z h
 reach_halt Unsupported place₀ most l z h = reach_beyond place₀ most l z h

@@ -9,6 +9,7 @@ use Rattle.meaning.specs.Words.{decimal, digits_value, number, bytes_of, first_o
 use Rattle.words.specs.Encoding.{encoded, marked, plain, Small, AllSmall, Bytes, shown, rev, word_length}
 use Rattle.machine.specs.Arguments.{lows, maybe, number_of, exit_number, chosen}
 use Rattle.store.specs.declared.Refusal.{Refusal}
+use Rattle.store.specs.declared.Store.{Store}
 use Rattle.words.specs.Pushed.{Pushed}
 use Rattle.words.proofs.Pushes.{differ}
 use Rattle.words.proofs.Texts.{low, byte_is, encoded_length, word_is, shown_length, line_bytes}
@@ -155,8 +156,8 @@ drop_take (suc i) n [] = let e : suc i + n ≡ suc (i + n) = omega arith in rw e
 drop_take (suc i) n (v ∷ V) = let e : suc i + n ≡ suc (i + n) = omega arith in rw e (drop_take i n V)
 
 -- the first argument, where there is one, and where there is none
-pub choice_some : {b : ℕ × List Bool} {t : ℕ} {m m' : List (List ℕ)} {r : Result (Unit {0}) Refusal} (V : List ℕ) (first n : ℕ) → first < length V → n ≡ word_length (drop (first + 1) V) → Pushed b t m m' (rev (shown (drop (first + 1) (take (first + 1 + n) V)) ++ (10 ∷ []))) r → Pushed b t m m' (rev (chosen (drop first V) ++ (10 ∷ []))) r
-choice_some {b} {t} {m} {m'} {r} V first n l f h = subst (λ y. Pushed b t m m' (rev (y ++ (10 ∷ []))) r) (ap shown (drop_take (first + 1) n V) ∙ sym (ap chosen (drop_more V first 0 l) ∙ sym (ap (λ j. shown (take j (drop (first + 1) V))) f))) h
+pub choice_some : {s s' : Store} {t : ℕ} {r : Result (Unit {0}) Refusal} (V : List ℕ) (first n : ℕ) → first < length V → n ≡ word_length (drop (first + 1) V) → Pushed s s' t (rev (shown (drop (first + 1) (take (first + 1 + n) V)) ++ (10 ∷ []))) r → Pushed s s' t (rev (chosen (drop first V) ++ (10 ∷ []))) r
+choice_some {s} {s'} {t} {r} V first n l f h = subst (λ y. Pushed s s' t (rev (y ++ (10 ∷ []))) r) (ap shown (drop_take (first + 1) n V) ∙ sym (ap chosen (drop_more V first 0 l) ∙ sym (ap (λ j. shown (take j (drop (first + 1) V))) f))) h
 
-pub choice_none : {b : ℕ × List Bool} {t : ℕ} {m m' : List (List ℕ)} {r : Result (Unit {0}) Refusal} (V : List ℕ) (first : ℕ) → length V ≤ first → Pushed b t m m' (10 ∷ 121 ∷ []) r → Pushed b t m m' (rev (chosen (drop first V) ++ (10 ∷ []))) r
+pub choice_none : {s s' : Store} {t : ℕ} {r : Result (Unit {0}) Refusal} (V : List ℕ) (first : ℕ) → length V ≤ first → Pushed s s' t (10 ∷ 121 ∷ []) r → Pushed s s' t (rev (chosen (drop first V) ++ (10 ∷ []))) r
 choice_none V first l h = rw (drop_all first V l) h

@@ -2,6 +2,8 @@
 use Rattle.std.specs.Prelude.{◌≡◌, ℕ, ◌+◌, ◌<◌, ◌≤◌, Bool, true, false, ◌||◌, ◌⊎◌, List, [], ◌∷◌, ◌++◌, length, Some, None, Option as Maybe, Ok, Err, Result, ◌≢◌, slice_set}
 use Rattle.std.proofs.Math.Option.{Option, some, none}
 use Rattle.segments.specs.Layout.{need}
+use Rattle.store.specs.declared.Store.{Store}
+use Rattle.store.specs.Held.{model, bounds}
 use Rattle.syntax.specs.Base.{nth, Name}
 use Rattle.syntax.specs.Tree.{parameter, substitution, Word, no_parts, and_part, Words, no_words, Assignments, no_assignments, assign, Redirects, no_redirects, redirect, Command, simple, group, subshell, if, while, for, case, function, Pipeline, piped, AndOr, CommandList, next}
 use Rattle.meaning.specs.System.{QuotedByte, Purpose, Control, at_list, at_pipeline, at_command, at_words, at_redirects, then_invoke, Frame, Process, System, host_paper, with_paper}
@@ -118,9 +120,10 @@ DoesSays text code b m m' p number r c k (Err NoRoom) = Tight b m number p r c k
 DoesSays text code b m m' p number r c k (Err PaperFull) = ⊥
 DoesSays text code b m m' p number r c k (Err Unsupported) = Beyond c
 
--- whatever p stands for
-pub record Does (text code : List ℕ) (b : ℕ × List Bool) (m m' : List (List ℕ)) (p : Process') (a : Result Process' Halt) : Type 0 where
-  pub says : (number : ℕ → ℕ) (r : Rest) (c : Control) (k : List Frame) → Rep text code number b.1 m p r c k → DoesSays text code b m m' p number r c k a
+-- whatever p stands for, over a store s that is s' now
+pub record Does (text code : List ℕ) (s s' : Store) (p : Process') (a : Result Process' Halt) : Type 0 where
+  pub same : bounds s' ≡ bounds s
+  pub says : (number : ℕ → ℕ) (r : Rest) (c : Control) (k : List Frame) → Rep text code number (bounds s).1 (model s) p r c k → DoesSays text code (bounds s) (model s) (model s') p number r c k a
 
 -- where the output is the paper, w prints this byte and is then w'
 abbrev pub Writes : Process → Process → ℕ → Type 0
@@ -156,6 +159,11 @@ StepSays text code b m m' o o' place p number r c k (Err NoRoom) = Tight b m num
 StepSays text code b m m' o o' place p number r c k (Err PaperFull) = Filled number o place p r c k × (m' ≡ m) × (o' ≡ o)
 StepSays text code b m m' o o' place p number r c k (Err Unsupported) = (Beyond c ⊎ (p.stdout ≢ 1)) × (o' ≡ o)
 
--- one step of whatever p stands for, with a paper of which o holds what was printed before this place
-pub record Stepped (text code : List ℕ) (b : ℕ × List Bool) (m m' : List (List ℕ)) (o o' : List ℕ) (place : ℕ) (p : Process') (a : Result Step Halt) : Type 0 where
+-- a step of whatever p stands for, with a paper of which o holds what was printed before this place
+pub record StepsAs (text code : List ℕ) (b : ℕ × List Bool) (m m' : List (List ℕ)) (o o' : List ℕ) (place : ℕ) (p : Process') (a : Result Step Halt) : Type 0 where
   pub says : (number : ℕ → ℕ) (r : Rest) (c : Control) (k : List Frame) → Rep text code number b.1 m p r c k → StepSays text code b m m' o o' place p number r c k a
+
+-- one step of p, over a store s that is s' now
+pub record Stepped (text code : List ℕ) (s s' : Store) (o o' : List ℕ) (place : ℕ) (p : Process') (a : Result Step Halt) : Type 0 where
+  pub same : bounds s' ≡ bounds s
+  pub steps : StepsAs text code (bounds s) (model s) (model s') o o' place p a

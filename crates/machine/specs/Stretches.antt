@@ -1,6 +1,8 @@
 -- Steps of one process in a row, as moves of a system.
 use Rattle.std.specs.Prelude.{◌≡◌, ℕ, ◌+◌, ◌<◌, ◌≤◌, Bool, ◌⊎◌, List, length, take, drop, replicate, ◌≢◌, Ok, Err, Result}
 use Rattle.std.proofs.Math.Option.{some}
+use Rattle.store.specs.declared.Store.{Store}
+use Rattle.store.specs.Held.{model, bounds}
 use Rattle.syntax.specs.Base.{nth}
 use Rattle.meaning.specs.System.{Control, Frame, Process, System, host_paper, with_processes, with_paper, find_process, replace}
 use Rattle.meaning.specs.Step.{moves, exits, settle}
@@ -46,8 +48,13 @@ EndSays text code b m m' o o' place p most number r s p' place' made (Err PaperF
 EndSays text code b m m' o o' place p most number r s p' place' made (Err Unsupported) = (m₁ : List (List ℕ)) × (z : Reached text code number b.1 m m₁ o o' place' p p' r s made) × (made < most) × (Beyond z.c ⊎ (p'.stdout ≢ 1))
 
 -- in whatever system the process stands
-pub record Stretched (text code : List ℕ) (b : ℕ × List Bool) (m m' : List (List ℕ)) (o o' : List ℕ) (place : ℕ) (p : Process') (most : ℕ) (a : Stretch) : Type 0 where
+pub record StretchesAs (text code : List ℕ) (b : ℕ × List Bool) (m m' : List (List ℕ)) (o o' : List ℕ) (place : ℕ) (p : Process') (most : ℕ) (a : Stretch) : Type 0 where
   pub says : (number : ℕ → ℕ) (r : Rest) (c : Control) (k : List Frame) (s : System) → Rep text code number b.1 m p r c k → Stands number o place p r c k s → EndSays text code b m m' o o' place p most number r s a.process a.place a.moves a.ending
+
+-- steps of p in a row, over a store s that is s' now
+pub record Stretched (text code : List ℕ) (s s' : Store) (o o' : List ℕ) (place : ℕ) (p : Process') (most : ℕ) (a : Stretch) : Type 0 where
+  pub same : bounds s' ≡ bounds s
+  pub stretches : StretchesAs text code (bounds s) (model s) (model s') o o' place p most a
 
 -- in whatever system the process stands, no fewer bytes are printed than before
 pub record Onward (text code : List ℕ) (live : List Bool) (m : List (List ℕ)) (o : List ℕ) (place : ℕ) (p : Process') (place' : ℕ) : Type 0 where

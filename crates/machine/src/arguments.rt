@@ -1,5 +1,5 @@
 //! What commands read off their arguments.
-ghost use Rattle.std.specs.Prelude.{◌≡◌, ℕ, ◌+◌, ◌-◌, ◌*◌, ◌<◌, ◌≤◌, List, length, IfSome};
+ghost use Rattle.std.specs.Prelude.{◌≡◌, ◌<◌, List, IfSome};
 ghost use Rattle.meaning.specs.System.{QuotedByte};
 ghost use Rattle.words.specs.Encoding.{marked, AllSmall};
 ghost use Rattle.machine.specs.Arguments.{number_of, exit_number};

@@ -1,7 +1,7 @@
 //! Builtin commands: how they begin, and what they do between prints.
-ghost use Rattle.std.specs.Prelude.{◌≡◌, ℕ, ◌+◌, ◌-◌, ◌*◌, ◌%◌, ◌<◌, ◌≤◌, List, [], ◌∷◌, ◌++◌, length, take, drop, nat_le, slice_index_or};
+ghost use Rattle.std.specs.Prelude.{◌≡◌, ℕ, ◌%◌, ◌<◌, ◌≤◌, List, [], ◌∷◌, ◌++◌, length, take, drop, nat_le, slice_index_or};
 ghost use Rattle.syntax.specs.Base.{pick};
-ghost use Rattle.store.specs.Held.{model, bounds};
+ghost use Rattle.store.specs.Held.{model};
 ghost use Rattle.words.specs.Encoding.{shown, rev};
 ghost use Rattle.words.specs.Pushed.{Pushed};
 ghost use Rattle.machine.specs.Arguments.{chosen};
@@ -49,8 +49,7 @@ fn push_reversed(
     requires lists { from < to }
     requires order { low ≤ high }
     requires in_bounds { high ≤ length (slice_index_or (model st.old) from []) }
-    ensures same { bounds st.new ≡ bounds st.old }
-    ensures says { Pushed (bounds st.old) to (model st.old) (model st.new) (rev (shown (drop low (take high (slice_index_or (model st.old) from []))))) result }
+    ensures { Pushed st.old st.new to (rev (shown (drop low (take high (slice_index_or (model st.old) from []))))) result }
 {
     for j in (low..high).rev() {
         let w = st.get(from, j);
@@ -64,8 +63,7 @@ fn push_line(st: &mut Store, from: usize, to: usize, low: usize, high: usize) ->
     requires lists { from < to }
     requires order { low ≤ high }
     requires in_bounds { high ≤ length (slice_index_or (model st.old) from []) }
-    ensures same { bounds st.new ≡ bounds st.old }
-    ensures says { Pushed (bounds st.old) to (model st.old) (model st.new) (rev (shown (drop low (take high (slice_index_or (model st.old) from []))) ++ (10 ∷ []))) result }
+    ensures { Pushed st.old st.new to (rev (shown (drop low (take high (slice_index_or (model st.old) from []))) ++ (10 ∷ []))) result }
 {
     extend(st, to, &[NEWLINE])?;
     push_reversed(st, from, to, low, high)
@@ -74,8 +72,7 @@ fn push_line(st: &mut Store, from: usize, to: usize, low: usize, high: usize) ->
 // echo prints its arguments with blanks between them; the first stands behind the mark at `first`.
 fn start_echo(st: &mut Store, process: Process, first: usize) -> Result<Process, Halt>
     requires invoked { Invoked (model st.old) process BuiltinName.Echo first }
-    ensures same { bounds st.new ≡ bounds st.old }
-    ensures says { (text code : List ℕ) → Does text code (bounds st.old) (model st.old) (model st.new) process result }
+    ensures { (text code : List ℕ) → Does text code st.old st.new process result }
 {
     let list = process.words();
     let len = st.len(list);
@@ -88,8 +85,7 @@ fn start_echo(st: &mut Store, process: Process, first: usize) -> Result<Process,
 // exit leaves with the number that it is given, modulo 256, or with the last status; status 2 if that is no number.
 fn start_exit(st: &mut Store, process: Process, first: usize) -> Process
     requires invoked { Invoked (model st.old) process BuiltinName.Exit first }
-    ensures same { bounds st.new ≡ bounds st.old }
-    ensures says { (text code : List ℕ) → Does text code (bounds st.old) (model st.old) (model st.new) process (Ok result) }
+    ensures { (text code : List ℕ) → Does text code st.old st.new process (Ok result) }
 {
     let list = process.words();
     let number = exit_number(st.words_from(list, first), process.status);
@@ -103,8 +99,7 @@ fn start_exit(st: &mut Store, process: Process, first: usize) -> Process
 // What yes prints, its first argument or y, as a line behind list `to`, reversed; or a refusal.
 fn push_choice(st: &mut Store, from: usize, to: usize, first: usize) -> Result<(), Refusal>
     requires lists { from < to }
-    ensures same { bounds st.new ≡ bounds st.old }
-    ensures says { Pushed (bounds st.old) to (model st.old) (model st.new) (rev (chosen (drop first (slice_index_or (model st.old) from [])) ++ (10 ∷ []))) result }
+    ensures { Pushed st.old st.new to (rev (chosen (drop first (slice_index_or (model st.old) from [])) ++ (10 ∷ []))) result }
 {
     if first >= st.len(from) {
         return extend(st, to, &[NEWLINE, LETTER_Y]);
@@ -117,8 +112,7 @@ fn push_choice(st: &mut Store, from: usize, to: usize, first: usize) -> Result<(
 // yes prints one line for ever.
 fn start_yes(st: &mut Store, process: Process, first: usize) -> Result<Process, Halt>
     requires invoked { Invoked (model st.old) process BuiltinName.Yes first }
-    ensures same { bounds st.new ≡ bounds st.old }
-    ensures says { (text code : List ℕ) → Does text code (bounds st.old) (model st.old) (model st.new) process result }
+    ensures { (text code : List ℕ) → Does text code st.old st.new process result }
 {
     let list = process.words();
     push_choice(st, list, process.line(), first)?;
@@ -129,8 +123,7 @@ fn start_yes(st: &mut Store, process: Process, first: usize) -> Result<Process, 
 // seq counts; status 2 if its arguments are wrong.
 fn start_seq(st: &mut Store, process: Process, first: usize) -> Process
     requires invoked { Invoked (model st.old) process BuiltinName.Seq first }
-    ensures same { bounds st.new ≡ bounds st.old }
-    ensures says { (text code : List ℕ) → Does text code (bounds st.old) (model st.old) (model st.new) process (Ok result) }
+    ensures { (text code : List ℕ) → Does text code st.old st.new process (Ok result) }
 {
     let list = process.words();
     let range = seq_range(st.words_from(list, first));
@@ -164,8 +157,7 @@ fn start_at_once(
 ) -> Result<Process, Halt>
     requires invoked { Invoked (model st.old) process name first }
     requires plain { IsPlain name }
-    ensures same { bounds st.new ≡ bounds st.old }
-    ensures says { (text code : List ℕ) → Does text code (bounds st.old) (model st.old) (model st.new) process result }
+    ensures { (text code : List ℕ) → Does text code st.old st.new process result }
 {
     let Some(control) = at_once(name) else {
         return Err(Halt::Unsupported);
@@ -177,8 +169,7 @@ fn start_at_once(
 /// The words are expanded: the command that the first one names begins.
 pub fn step_invoke(st: &mut Store, process: Process) -> Result<Process, Halt>
     requires control { process.control ≡ Control.AtInvoke }
-    ensures same { bounds st.new ≡ bounds st.old }
-    ensures says { (text code : List ℕ) → Does text code (bounds st.old) (model st.old) (model st.new) process result }
+    ensures { (text code : List ℕ) → Does text code st.old st.new process result }
 {
     let list = process.words();
     if st.len(list) == 0 {

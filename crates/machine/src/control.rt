@@ -1,5 +1,5 @@
 //! What a process does next, from the code and a few numbers alone.
-ghost use Rattle.std.specs.Prelude.{◌≡◌, ℕ, ◌+◌, ◌<◌, ◌≤◌, Some, None};
+ghost use Rattle.std.specs.Prelude.{◌≡◌};
 ghost use Rattle.machine.specs.Decide.{plainly, list_next, and_or_next, pipeline_next, words_start, command_next, tree_next, removed, replaced, and_or_status, if_status, status_next, loop_unwind, unwind_next};
 
 use crate::frames::Frame;

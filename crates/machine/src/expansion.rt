@@ -1,7 +1,6 @@
 //! Words being expanded, in the list behind the frames: a mark before each word, then its bytes.
-ghost use Rattle.std.specs.Prelude.{◌≡◌, ℕ, ◌+◌, ◌<◌, ◌≤◌, List, ◌++◌, length, ◌≢◌};
+ghost use Rattle.std.specs.Prelude.{◌≡◌, ◌≤◌, ◌++◌, length, ◌≢◌};
 ghost use Rattle.code.specs.Layout.{flag};
-ghost use Rattle.store.specs.Held.{model, bounds};
 ghost use Rattle.words.specs.Encoding.{Bytes, coded, mark, patterned, word_length};
 ghost use Rattle.words.specs.Pushed.{Pushed};
 ghost use Rattle.machine.specs.Promises.{Does};
@@ -20,8 +19,7 @@ const QUESTION_MARK: u32 = b'?' as u32;
 
 // Bytes of a literal behind list i, or a refusal.
 fn push_bytes(st: &mut Store, i: usize, bytes: &[u8], quoted: bool) -> Result<(), Refusal>
-    ensures same { bounds st.new ≡ bounds st.old }
-    ensures says { Pushed (bounds st.old) i (model st.old) (model st.new) (coded (flag quoted) bytes.now) result }
+    ensures pushed { Pushed st.old st.new i (coded (flag quoted) bytes.now) result }
     ensures bytes { Bytes bytes.now }
 {
     for b in bytes {
@@ -38,8 +36,7 @@ fn push_literal(
     quoted: bool,
     opened: bool,
 ) -> Result<(), Refusal>
-    ensures same { bounds st.new ≡ bounds st.old }
-    ensures says { Pushed (bounds st.old) i (model st.old) (model st.new) (mark opened ++ coded (flag quoted) bytes.now) result }
+    ensures pushed { Pushed st.old st.new i (mark opened ++ coded (flag quoted) bytes.now) result }
     ensures bytes { Bytes bytes.now }
 {
     if opened {
@@ -65,8 +62,7 @@ fn step_part(
 ) -> Result<Process, Halt>
     requires control { process.control ≡ Control.AtWords expansion }
     requires parts { expansion.parts ≢ 0 }
-    ensures same { bounds st.new ≡ bounds st.old }
-    ensures says { Does code.entry.text.now code.entry.words.now (bounds st.old) (model st.old) (model st.new) process result }
+    ensures { Does code.entry.text.now code.entry.words.now st.old st.new process result }
 {
     let Some(part) = code.part(expansion.parts) else {
         return Err(Halt::Unsupported);
@@ -90,8 +86,7 @@ pub fn step_words(
     expansion: Expansion,
 ) -> Result<Process, Halt>
     requires control { process.control ≡ Control.AtWords expansion }
-    ensures same { bounds st.new ≡ bounds st.old }
-    ensures says { Does code.entry.text.now code.entry.words.now (bounds st.old) (model st.old) (model st.new) process result }
+    ensures { Does code.entry.text.now code.entry.words.now st.old st.new process result }
 {
     if expansion.parts != 0 {
         return step_part(code, st, process, expansion);

@@ -1,5 +1,5 @@
 //! The frames of a process, in the list at its base.
-ghost use Rattle.std.specs.Prelude.{◌≡◌, ℕ, ◌+◌, ◌-◌, ◌*◌, ◌<◌, ◌≤◌, List, [], ◌∷◌, ◌++◌, length, slice_index_or, slice_set};
+ghost use Rattle.std.specs.Prelude.{◌≡◌, ◌≤◌, [], length, slice_index_or, slice_set};
 ghost use Rattle.store.specs.Held.{model, bounds};
 ghost use Rattle.words.specs.Pushed.{Pushed};
 ghost use Rattle.machine.specs.Frames.{words_of, Decodes, framed, top_frame, settled};
@@ -83,8 +83,7 @@ impl TryFrom<[u32; 3]> for Frame {
 
 /// One frame more, if there is one to push; or a refusal.
 pub fn push_frame(st: &mut Store, process: Process, frame: Option<Frame>) -> Result<(), Refusal>
-    ensures same { bounds st.new ≡ bounds st.old }
-    ensures says { Pushed (bounds st.old) process.base (model st.old) (model st.new) (framed frame) result }
+    ensures { Pushed st.old st.new process.base (framed frame) result }
 {
     let Some(frame) = frame else {
         return Ok(());

@@ -1,12 +1,12 @@
 //! Builtin commands by their names.
-ghost use Rattle.std.specs.Prelude.{◌≡◌, ℕ, ◌+◌, ◌<◌, ◌≤◌, List, [], ◌∷◌, length};
+ghost use Rattle.std.specs.Prelude.{◌≡◌};
 ghost use Rattle.words.specs.Encoding.{named};
 ghost use Rattle.machine.specs.Commands.{name_of};
 
 use crate::expansion::word_len;
 
 /// The commands of the shell; any other name is none.
-#[derive(Clone, Copy)]
+#[derive(Clone, Copy, Debug, PartialEq, Eq)]
 pub enum BuiltinName {
     Echo,
     Cat,

@@ -1,6 +1,5 @@
 //! Printing on the paper, byte by byte.
-ghost use Rattle.std.specs.Prelude.{◌≡◌, ℕ, ◌+◌, ◌-◌, ◌*◌, ◌%◌, ◌<◌, ◌≤◌, List, [], ◌∷◌, ◌++◌, length};
-ghost use Rattle.store.specs.Held.{model, bounds};
+ghost use Rattle.std.specs.Prelude.{◌≡◌, ℕ, List};
 ghost use Rattle.meaning.specs.Words.{decimal, as_line};
 ghost use Rattle.words.specs.Encoding.{rev};
 ghost use Rattle.words.specs.Pushed.{Pushed};
@@ -16,7 +15,7 @@ use words::{append, extend};
 const ZERO: u32 = b'0' as u32;
 
 /// The next byte of the text goes to the paper, at this place; where there is none the builtin goes on.
-// A struct of the paper and the place would hold the lent bytes, and each call would have to promise that it holds the same ones still.
+// The paper and the place are passed side by side, as the store and the process are (step.rt).
 pub fn step_print(
     st: &mut Store,
     paper: &mut [u8],
@@ -25,8 +24,7 @@ pub fn step_print(
     builtin: Builtin,
 ) -> Result<Step, Halt>
     requires control { process.control ≡ Control.AtPrint builtin }
-    ensures same { bounds st.new ≡ bounds st.old }
-    ensures says { (text code : List ℕ) → Stepped text code (bounds st.old) (model st.old) (model st.new) paper.old paper.new place process result }
+    ensures { (text code : List ℕ) → Stepped text code st.old st.new paper.old paper.new place process result }
 {
     let list = process.text();
     let len = st.len(list);
@@ -47,8 +45,7 @@ pub fn step_print(
 
 // The digits of a number behind list i, the last first; or a refusal.
 fn push_decimal(st: &mut Store, i: usize, n: u32) -> Result<(), Refusal>
-    ensures same { bounds st.new ≡ bounds st.old }
-    ensures says { Pushed (bounds st.old) i (model st.old) (model st.new) (rev (decimal n)) result }
+    ensures { Pushed st.old st.new i (rev (decimal n)) result }
 {
     let mut rest = n;
     while rest >= 10 {
@@ -60,8 +57,7 @@ fn push_decimal(st: &mut Store, i: usize, n: u32) -> Result<(), Refusal>
 
 // A number as a line behind list i, reversed; or a refusal.
 fn push_number(st: &mut Store, i: usize, n: u32) -> Result<(), Refusal>
-    ensures same { bounds st.new ≡ bounds st.old }
-    ensures says { Pushed (bounds st.old) i (model st.old) (model st.new) (rev (as_line (decimal n))) result }
+    ensures { Pushed st.old st.new i (rev (as_line (decimal n))) result }
 {
     extend(st, i, &[NEWLINE])?;
     push_decimal(st, i, n)
@@ -70,8 +66,7 @@ fn push_number(st: &mut Store, i: usize, n: u32) -> Result<(), Refusal>
 /// A builtin goes on when its text is printed.
 pub fn step_builtin(st: &mut Store, process: Process, builtin: Builtin) -> Result<Process, Halt>
     requires control { process.control ≡ Control.AtBuiltin builtin }
-    ensures same { bounds st.new ≡ bounds st.old }
-    ensures says { (text code : List ℕ) → Does text code (bounds st.old) (model st.old) (model st.new) process result }
+    ensures { (text code : List ℕ) → Does text code st.old st.new process result }
 {
     match builtin {
         Builtin::Done(n) => Ok(process.goes_to(Control::AtStatus(n))),

@@ -12,14 +12,14 @@ const TEXT: usize = 2;
 const LINE: usize = 3;
 
 /// What a builtin does when its text is printed.
-#[derive(Clone, Copy)]
+#[derive(Clone, Copy, Debug, PartialEq, Eq)]
 pub enum Builtin {
     Done(u32),
     Seq(u32, u32),
     Yes,
 }
 
-#[derive(Clone, Copy)]
+#[derive(Clone, Copy, Debug, PartialEq, Eq)]
 pub enum Unwind {
     Break,
     Continue,
@@ -28,7 +28,7 @@ pub enum Unwind {
 }
 
 /// Words being expanded, by their addresses.
-#[derive(Clone, Copy)]
+#[derive(Clone, Copy, Debug, PartialEq, Eq)]
 pub struct Expansion {
     /// the words to come
     pub words: u32,
@@ -39,7 +39,7 @@ pub struct Expansion {
 }
 
 /// What a process does next; a number is an address in the code or a status.
-#[derive(Clone, Copy)]
+#[derive(Clone, Copy, Debug, PartialEq, Eq)]
 pub enum Control {
     AtList(u32),
     AtAndOr(u32),
@@ -54,7 +54,7 @@ pub enum Control {
     AtUnwind(Unwind, u32),
 }
 
-#[derive(Clone, Copy)]
+#[derive(Clone, Copy, Debug, PartialEq, Eq)]
 pub struct Process {
     pub control: Control,
     pub status: u32,

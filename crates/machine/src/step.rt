@@ -1,6 +1,5 @@
 //! One step of a process.
-ghost use Rattle.std.specs.Prelude.{◌≡◌, ℕ, ◌+◌, ◌<◌, ◌≤◌, List, [], ◌∷◌, ◌++◌, length, Ok};
-ghost use Rattle.store.specs.Held.{model, bounds};
+ghost use Rattle.std.specs.Prelude.{◌≡◌, ℕ, List, Ok};
 ghost use Rattle.machine.specs.Decide.{Tree};
 ghost use Rattle.machine.specs.Promises.{Does, Stepped};
 
@@ -15,7 +14,7 @@ use code::Code;
 use store::Store;
 
 /// What a step led to.
-#[derive(Clone, Copy)]
+#[derive(Clone, Copy, Debug, PartialEq, Eq)]
 pub enum Step {
     Continues(Process),
     /// with a byte more on the paper, which is printed up to this place now
@@ -23,11 +22,13 @@ pub enum Step {
     Exits(u32),
 }
 
+// The store is passed beside the process: a struct of both would hold what is lent, and each call would have to promise that it
+// holds the same still.
+
 // A step that the code alone decides.
 fn step_tree(code: Code<'_>, st: &mut Store, process: Process) -> Result<Process, Halt>
     requires tree { Tree process.control }
-    ensures same { bounds st.new ≡ bounds st.old }
-    ensures says { Does code.entry.text.now code.entry.words.now (bounds st.old) (model st.old) (model st.new) process result }
+    ensures { Does code.entry.text.now code.entry.words.now st.old st.new process result }
 {
     let Some(Next { control, frame }) = next_of_tree(code, process) else {
         return Err(Halt::Unsupported);
@@ -39,8 +40,7 @@ fn step_tree(code: Code<'_>, st: &mut Store, process: Process) -> Result<Process
 // A command is done with status n.
 fn step_status(code: Code<'_>, st: &mut Store, process: Process, n: u32) -> Step
     requires control { process.control ≡ Control.AtStatus n }
-    ensures same { bounds st.new ≡ bounds st.old }
-    ensures says { (o : List ℕ) (place : ℕ) → Stepped code.entry.text.now code.entry.words.now (bounds st.old) (model st.old) (model st.new) o o place process (Ok result) }
+    ensures { (o : List ℕ) (place : ℕ) → Stepped code.entry.text.now code.entry.words.now st.old st.new o o place process (Ok result) }
 {
     let Some(frame) = top(st, process) else {
         return Step::Exits(n);
@@ -57,8 +57,7 @@ fn step_status(code: Code<'_>, st: &mut Store, process: Process, n: u32) -> Step
 // break, continue, return or exit goes out of the last frame.
 fn step_unwind(code: Code<'_>, st: &mut Store, process: Process, unwind: Unwind, n: u32) -> Step
     requires control { process.control ≡ Control.AtUnwind unwind n }
-    ensures same { bounds st.new ≡ bounds st.old }
-    ensures says { (o : List ℕ) (place : ℕ) → Stepped code.entry.text.now code.entry.words.now (bounds st.old) (model st.old) (model st.new) o o place process (Ok result) }
+    ensures { (o : List ℕ) (place : ℕ) → Stepped code.entry.text.now code.entry.words.now st.old st.new o o place process (Ok result) }
 {
     let Some(frame) = top(st, process) else {
         return Step::Exits(n);
@@ -76,8 +75,7 @@ pub fn take_step(
     place: usize,
     process: Process,
 ) -> Result<Step, Halt>
-    ensures same { bounds st.new ≡ bounds st.old }
-    ensures says { Stepped code.entry.text.now code.entry.words.now (bounds st.old) (model st.old) (model st.new) paper.old paper.new place process result }
+    ensures { Stepped code.entry.text.now code.entry.words.now st.old st.new paper.old paper.new place process result }
 {
     match process.control {
         Control::AtList(_)

@@ -1,5 +1,5 @@
 //! Several steps of one process in a row.
-ghost use Rattle.std.specs.Prelude.{◌≡◌, ℕ, ◌+◌, ◌<◌, ◌≤◌, List, [], ◌∷◌, ◌++◌, length};
+ghost use Rattle.std.specs.Prelude.{◌≡◌};
 ghost use Rattle.store.specs.Held.{model, bounds};
 ghost use Rattle.machine.specs.Stretches.{Onward, Stretched};
 
@@ -10,7 +10,7 @@ use code::Code;
 use store::Store;
 
 /// How a stretch ended where nothing stopped it.
-#[derive(Clone, Copy)]
+#[derive(Clone, Copy, Debug, PartialEq, Eq)]
 pub enum Ending {
     /// all moves that were allowed are made
     Spent,
@@ -18,12 +18,23 @@ pub enum Ending {
 }
 
 /// What a stretch led to: the process, up to which place the paper is printed, how many moves were made, why it ended.
-#[derive(Clone, Copy)]
+#[derive(Clone, Copy, Debug, PartialEq, Eq)]
 pub struct Stretch {
     pub process: Process,
     pub place: usize,
     pub moves: u32,
     pub ending: Result<Ending, Halt>,
+}
+
+fn ended(process: Process, place: usize, moves: u32, ending: Result<Ending, Halt>) -> Stretch
+    ensures { result ≡ record { process = process; place = place; moves = moves; ending = ending } }
+{
+    Stretch {
+        process,
+        place,
+        moves,
+        ending,
+    }
 }
 
 /// Steps of one process, at most so many.
@@ -35,8 +46,7 @@ pub fn run_stretch(
     process: Process,
     most: u32,
 ) -> Stretch
-    ensures same { bounds st.new ≡ bounds st.old }
-    ensures says { Stretched code.entry.text.now code.entry.words.now (bounds st.old) (model st.old) (model st.new) paper.old paper.new place process most result }
+    ensures says { Stretched code.entry.text.now code.entry.words.now st.old st.new paper.old paper.new place process most result }
     ensures onward { Onward code.entry.text.now code.entry.words.now (bounds st.old).1 (model st.old) paper.old place process result.place }
 {
     let mut process = process;
@@ -44,14 +54,7 @@ pub fn run_stretch(
     for moves in 0..most {
         let step = match take_step(code, st, paper, place, process) {
             Ok(step) => step,
-            Err(halt) => {
-                return Stretch {
-                    process,
-                    place,
-                    moves,
-                    ending: Err(halt),
-                };
-            }
+            Err(halt) => return ended(process, place, moves, Err(halt)),
         };
         match step {
             Step::Continues(next) => process = next,
@@ -59,20 +62,8 @@ pub fn run_stretch(
                 process = next;
                 place = printed;
             }
-            Step::Exits(n) => {
-                return Stretch {
-                    process,
-                    place,
-                    moves: moves + 1,
-                    ending: Ok(Ending::Exited(n)),
-                };
-            }
+            Step::Exits(n) => return ended(process, place, moves + 1, Ok(Ending::Exited(n))),
         }
     }
-    Stretch {
-        process,
-        place,
-        moves: most,
-        ending: Ok(Ending::Spent),
-    }
+    ended(process, place, most, Ok(Ending::Spent))
 }

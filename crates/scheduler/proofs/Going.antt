@@ -20,7 +20,7 @@ use Rattle.machine.specs.Represent.{abstract, r_list}
 use Rattle.words.specs.Pushed.{Scarce}
 use Rattle.machine.specs.Promises.{size, Tight, tight_now, tight_then}
 use Rattle.machine.specs.Room.{own}
-use Rattle.machine.specs.Stretches.{Reached, Stands, EndSays, Stretched, Onward}
+use Rattle.machine.specs.Stretches.{Reached, Stands, EndSays, StretchesAs, Onward}
 use Rattle.machine.proofs.Rooms.{own_room, refusal_bound}
 use Rattle.scheduler.specs.declared.slices.Outcome.{Outcome}
 use Rattle.scheduler.specs.declared.slices.End.TheVariants.{Exited, Spent}
@@ -71,7 +71,7 @@ Said {text} {code} {live} {m} {o₀} {o} {place} {made} {p} {l} {i} half m' o' m
 onward : {text code : List ℕ} {live : List Bool} {m : List (List ℕ)} {o₀ o : List ℕ} {place place' made : ℕ} {p : Process'} {l : CommandList} {i : List ℕ} (g : Going text code live m o₀ o place made p l i) → Onward text code live m o place p place' → place ≤ place'
 onward g w = w.says as_it_is first_rest g.c g.k _ g.rep (stands g)
 
-said : {text code : List ℕ} {half : ℕ} {live : List Bool} {m m' : List (List ℕ)} {o₀ o o' : List ℕ} {place made most : ℕ} {p : Process'} {l : CommandList} {i : List ℕ} {a : Stretch} (e : Result Ending Halt) → a.ending ≡ e → (g : Going text code live m o₀ o place made p l i) → Stretched text code (half, live) m m' o o' place p most a → Said half m' o' most g a e
+said : {text code : List ℕ} {half : ℕ} {live : List Bool} {m m' : List (List ℕ)} {o₀ o o' : List ℕ} {place made most : ℕ} {p : Process'} {l : CommandList} {i : List ℕ} {a : Stretch} (e : Result Ending Halt) → a.ending ≡ e → (g : Going text code live m o₀ o place made p l i) → StretchesAs text code (half, live) m m' o o' place p most a → Said half m' o' most g a e
 said {half = half} {m' = m'} {o' = o'} {most = most} {a = a} e q g h = subst (λ e. Said half m' o' most g a e) q (h.says as_it_is first_rest g.c g.k _ g.rep (stands g))
 
 -- a slice whose moves are all made
@@ -159,26 +159,26 @@ beyond_says {o₀ = o₀} {made = made} half m' o' a most slice words g f z =
     (replicate (made + a.moves) 0, _, _, y.came, refl, z.3, on_paper o₀ o' a.place y.long y.within y.behind)
 
 -- the same for every list of commands and every input
-pub goes_on : {text code : List ℕ} {root half : ℕ} {live : List Bool} {m m' m'' : List (List ℕ)} {o₀ o o' : List ℕ} {place made most : ℕ} {p : Process'} {a : Stretch} → a.ending ≡ Ok Spent' → m'' ≡ set m' 0 (rotated (get_or m' 0 [])) → Stretched text code (half, live) m m' o o' place p most a → Onward text code live m o place p a.place → Goes text code root live m o₀ o place made p → Goes text code root live m'' o₀ o' a.place (made + most) a.process
+pub goes_on : {text code : List ℕ} {root half : ℕ} {live : List Bool} {m m' m'' : List (List ℕ)} {o₀ o o' : List ℕ} {place made most : ℕ} {p : Process'} {a : Stretch} → a.ending ≡ Ok Spent' → m'' ≡ set m' 0 (rotated (get_or m' 0 [])) → StretchesAs text code (half, live) m m' o o' place p most a → Onward text code live m o place p a.place → Goes text code root live m o₀ o place made p → Goes text code root live m'' o₀ o' a.place (made + most) a.process
 goes_on {half = half} {a = a} e q h f g = record { says = λ l i z. queue_on q (slice_on half a (g.says l i z) (onward (g.says l i z) f) (said (Ok Spent') e (g.says l i z) h)) }
 
 pub spent : {text code : List ℕ} {root : ℕ} {live : List Bool} {m : List (List ℕ)} {o₀ o : List ℕ} {place made : ℕ} {p : Process'} (words most : ℕ) → made ≡ most → Goes text code root live m o₀ o place made p → Executed text code root most words o₀ o (record { printed = place; end = Ok Spent })
 spent {text} {code} {root} {o₀ = o₀} {o = o} {place = place} words most e g = subst (λ n. Executed text code root n words o₀ o (record { printed = place; end = Ok Spent })) e (record { says = λ l i z. spent_says words (g.says l i z) })
 
-pub ended : {text code : List ℕ} {root half : ℕ} {live : List Bool} {m m' : List (List ℕ)} {o₀ o o' : List ℕ} {place made slice : ℕ} {p : Process'} {a : Stretch} (most words n : ℕ) → a.ending ≡ Ok (Exited' n) → Stretched text code (half, live) m m' o o' place p slice a → Onward text code live m o place p a.place → Goes text code root live m o₀ o place made p → Executed text code root most words o₀ o' (record { printed = a.place; end = Ok (Exited n) })
+pub ended : {text code : List ℕ} {root half : ℕ} {live : List Bool} {m m' : List (List ℕ)} {o₀ o o' : List ℕ} {place made slice : ℕ} {p : Process'} {a : Stretch} (most words n : ℕ) → a.ending ≡ Ok (Exited' n) → StretchesAs text code (half, live) m m' o o' place p slice a → Onward text code live m o place p a.place → Goes text code root live m o₀ o place made p → Executed text code root most words o₀ o' (record { printed = a.place; end = Ok (Exited n) })
 ended {half = half} {m' = m'} {slice = slice} {a = a} most words n e h f g = record { says = λ l i z. ended_says half m' a most slice words n (g.says l i z) (onward (g.says l i z) f) (said (Ok (Exited' n)) e (g.says l i z) h) }
 
-pub no_room : {text code : List ℕ} {root : ℕ} {m m' : List (List ℕ)} {o₀ o o' : List ℕ} {place made slice : ℕ} {p : Process'} {a : Stretch} (most words : ℕ) → a.ending ≡ Err NoRoom → Stretched text code (words / 2, opened 5 (words / 2)) m m' o o' place p slice a → Onward text code (opened 5 (words / 2)) m o place p a.place → Goes text code root (opened 5 (words / 2)) m o₀ o place made p → Executed text code root most words o₀ o' (record { printed = a.place; end = Err NoRoom })
+pub no_room : {text code : List ℕ} {root : ℕ} {m m' : List (List ℕ)} {o₀ o o' : List ℕ} {place made slice : ℕ} {p : Process'} {a : Stretch} (most words : ℕ) → a.ending ≡ Err NoRoom → StretchesAs text code (words / 2, opened 5 (words / 2)) m m' o o' place p slice a → Onward text code (opened 5 (words / 2)) m o place p a.place → Goes text code root (opened 5 (words / 2)) m o₀ o place made p → Executed text code root most words o₀ o' (record { printed = a.place; end = Err NoRoom })
 no_room {m' = m'} {slice = slice} {a = a} most words e h f g = record { says = λ l i z. no_room_says m' a most slice words (g.says l i z) (onward (g.says l i z) f) (said (Err NoRoom) e (g.says l i z) h) }
 
-pub full : {text code : List ℕ} {root half : ℕ} {live : List Bool} {m m' : List (List ℕ)} {o₀ o o' : List ℕ} {place made slice : ℕ} {p : Process'} {a : Stretch} (most words : ℕ) → a.ending ≡ Err PaperFull → Stretched text code (half, live) m m' o o' place p slice a → Onward text code live m o place p a.place → Goes text code root live m o₀ o place made p → Executed text code root most words o₀ o' (record { printed = a.place; end = Err PaperFull })
+pub full : {text code : List ℕ} {root half : ℕ} {live : List Bool} {m m' : List (List ℕ)} {o₀ o o' : List ℕ} {place made slice : ℕ} {p : Process'} {a : Stretch} (most words : ℕ) → a.ending ≡ Err PaperFull → StretchesAs text code (half, live) m m' o o' place p slice a → Onward text code live m o place p a.place → Goes text code root live m o₀ o place made p → Executed text code root most words o₀ o' (record { printed = a.place; end = Err PaperFull })
 full {half = half} {m' = m'} {slice = slice} {a = a} most words e h f g = record { says = λ l i z. full_says half m' a most slice words (g.says l i z) (onward (g.says l i z) f) (said (Err PaperFull) e (g.says l i z) h) }
 
-pub unsupported : {text code : List ℕ} {root half : ℕ} {live : List Bool} {m m' : List (List ℕ)} {o₀ o o' : List ℕ} {place made slice : ℕ} {p : Process'} {a : Stretch} (most words : ℕ) → a.ending ≡ Err Unsupported → Stretched text code (half, live) m m' o o' place p slice a → Onward text code live m o place p a.place → Goes text code root live m o₀ o place made p → Executed text code root most words o₀ o' (record { printed = a.place; end = Err Unsupported })
+pub unsupported : {text code : List ℕ} {root half : ℕ} {live : List Bool} {m m' : List (List ℕ)} {o₀ o o' : List ℕ} {place made slice : ℕ} {p : Process'} {a : Stretch} (most words : ℕ) → a.ending ≡ Err Unsupported → StretchesAs text code (half, live) m m' o o' place p slice a → Onward text code live m o place p a.place → Goes text code root live m o₀ o place made p → Executed text code root most words o₀ o' (record { printed = a.place; end = Err Unsupported })
 unsupported {half = half} {m' = m'} {o' = o'} {slice = slice} {a = a} most words e h f g = record { says = λ l i z. beyond_says half m' o' a most slice words (g.says l i z) (onward (g.says l i z) f) (said (Err Unsupported) e (g.says l i z) h) }
 
 -- a halt
-pub halted : {text code : List ℕ} {root : ℕ} {m m' : List (List ℕ)} {o₀ o o' : List ℕ} {place made slice : ℕ} {p : Process'} {a : Stretch} (halt : Halt) (most words : ℕ) → a.ending ≡ Err halt → Stretched text code (words / 2, opened 5 (words / 2)) m m' o o' place p slice a → Onward text code (opened 5 (words / 2)) m o place p a.place → Goes text code root (opened 5 (words / 2)) m o₀ o place made p → Executed text code root most words o₀ o' (record { printed = a.place; end = Err halt })
+pub halted : {text code : List ℕ} {root : ℕ} {m m' : List (List ℕ)} {o₀ o o' : List ℕ} {place made slice : ℕ} {p : Process'} {a : Stretch} (halt : Halt) (most words : ℕ) → a.ending ≡ Err halt → StretchesAs text code (words / 2, opened 5 (words / 2)) m m' o o' place p slice a → Onward text code (opened 5 (words / 2)) m o place p a.place → Goes text code root (opened 5 (words / 2)) m o₀ o place made p → Executed text code root most words o₀ o' (record { printed = a.place; end = Err halt })
 halted NoRoom most words e h f g = no_room most words e h f g
 halted PaperFull most words e h f g = full most words e h f g
 halted Unsupported most words e h f g = unsupported most words e h f g

@@ -1,5 +1,5 @@
 //! The lists that a run begins with.
-ghost use Rattle.std.specs.Prelude.{◌≡◌, ℕ, ◌+◌, ◌-◌, ◌<◌, ◌≤◌, Bool, true, false, List, [], ◌∷◌, ◌++◌, length, replicate};
+ghost use Rattle.std.specs.Prelude.{◌≡◌, ◌≤◌};
 ghost use Rattle.store.specs.Held.{model, bounds};
 ghost use Rattle.scheduler.specs.Lists.{opened, Opened};
 

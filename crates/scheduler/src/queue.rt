@@ -1,5 +1,5 @@
 //! The queue of those who can go on, by their places in the table of processes: the first moves next.
-ghost use Rattle.std.specs.Prelude.{◌≡◌, ℕ, ◌+◌, ◌-◌, ◌<◌, ◌≤◌, List, [], ◌∷◌, ◌++◌, length, Some, None, slice_index_or, slice_set};
+ghost use Rattle.std.specs.Prelude.{◌≡◌, [], slice_index_or, slice_set};
 ghost use Rattle.store.specs.Held.{model, bounds};
 ghost use Rattle.scheduler.specs.Queue.{first, rotated};
 

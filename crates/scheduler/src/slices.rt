@@ -1,5 +1,5 @@
 //! The loop: the first in the queue takes a slice of moves, and goes to the back.
-ghost use Rattle.std.specs.Prelude.{◌≡◌, ℕ, ◌+◌, ◌-◌, ◌*◌, ◌/◌, ◌<◌, ◌≤◌, List, [], ◌∷◌, ◌++◌, length, replicate, MatchResult};
+ghost use Rattle.std.specs.Prelude.{◌≡◌, ◌/◌, ◌<◌, length, MatchResult};
 ghost use Rattle.store.specs.Held.{model, bounds};
 ghost use Rattle.scheduler.specs.Lists.{opened, Begun};
 ghost use Rattle.scheduler.specs.Outcomes.{Executed, Goes, at_root};
@@ -11,7 +11,7 @@ use machine::{Control, Ending, Halt, Process, run_stretch};
 use store::{Refusal, Store, store_in};
 
 /// How a run ended where nothing stopped it.
-#[derive(Clone, Copy)]
+#[derive(Clone, Copy, Debug, PartialEq, Eq)]
 pub enum End {
     /// all processes have exited, the first one with this status
     Exited(u32),
@@ -22,7 +22,7 @@ pub enum End {
 }
 
 /// What a run came to, with how many bytes stand on the paper.
-#[derive(Clone, Copy)]
+#[derive(Clone, Copy, Debug, PartialEq, Eq)]
 pub struct Outcome {
     pub printed: usize,
     pub end: Result<End, Halt>,
@@ -50,6 +50,12 @@ pub fn first_process(root: u32) -> Process
     }
 }
 
+fn ended(printed: usize, end: Result<End, Halt>) -> Outcome
+    ensures { result ≡ record { printed = printed; end = end } }
+{
+    Outcome { printed, end }
+}
+
 // Slices of moves, until the run is over.
 fn run_slices(
     code: Code<'_>,
@@ -66,41 +72,26 @@ fn run_slices(
     let mut process = first_process(root);
     let mut printed = 0;
     let mut made = 0;
+    // The last slice may be shorter, so the moves are counted here.
     while made < most {
         if first_ready(st).is_none() {
-            return Outcome {
-                printed,
-                end: Ok(End::Still),
-            };
+            return ended(printed, Ok(End::Still));
         }
         let slice = (most - made).min(SLICE);
         let stretch = run_stretch(code, st, paper, printed, process, slice as u32);
         printed = stretch.place;
         let ending = match stretch.ending {
             Ok(ending) => ending,
-            Err(halt) => {
-                return Outcome {
-                    printed,
-                    end: Err(halt),
-                };
-            }
+            Err(halt) => return ended(printed, Err(halt)),
         };
         match ending {
             Ending::Spent => process = stretch.process,
-            Ending::Exited(status) => {
-                return Outcome {
-                    printed,
-                    end: Ok(End::Exited(status)),
-                };
-            }
+            Ending::Exited(status) => return ended(printed, Ok(End::Exited(status))),
         }
         made += slice;
         rotate(st);
     }
-    Outcome {
-        printed,
-        end: Ok(End::Spent),
-    }
+    ended(printed, Ok(End::Spent))
 }
 
 // A store in these words, with the lists of the first process, which is alone in the queue; or there is no room for them.
@@ -122,9 +113,6 @@ pub fn execute(code: Code<'_>, root: u32, most: u64, paper: &mut [u8], words: &m
     let all = words.len();
     match begin(words) {
         Ok(mut st) => run_slices(code, &mut st, most, paper, root, all),
-        Err(_) => Outcome {
-            printed: 0,
-            end: Err(Halt::NoRoom),
-        },
+        Err(_) => ended(0, Err(Halt::NoRoom)),
     }
 }

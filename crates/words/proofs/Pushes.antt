@@ -5,6 +5,8 @@ use Rattle.std.proofs.lemmas.Bool.{cases_lt, leb-false}
 use Rattle.std.proofs.lemmas.Result.{on_ok_weaker, on_err_weaker}
 use Rattle.segments.proofs.Moves.{need_at, need_set}
 use Rattle.store.specs.declared.Refusal.{Refusal}
+use Rattle.store.specs.declared.Store.{Store}
+use Rattle.store.specs.Held.{model, bounds}
 use Rattle.segments.specs.Layout.{need}
 use Rattle.store.specs.Sums.{asked, enough, told}
 use Rattle.words.specs.Pushed.{Scarce, Pushed}
@@ -41,16 +43,19 @@ refused true false w h z = refl
 refused false e w h z = absurd (differ (sym z))
 
 -- what a call of the store answers
-pub pushed : {b : ℕ × List Bool} {i : ℕ} {m m' : List (List ℕ)} {y : List ℕ} (r : Result (Unit {0}) Refusal) → MatchResult r (λ _. m' ≡ set m i (get_or m i [] ++ y)) (λ _. m' ≡ m) → r ≡ told (get_or b.1 i false) (enough b m (asked (length (get_or m i []) + length y))) → Pushed b i m m' y r
-pushed (Ok u) a e = record { ok = a; err = tt }
-pushed {b} {i} {m} {y = y} (Err w) a e = record { ok = tt; err = λ l. short b m i (length y) (refused (get_or b.1 i false) (enough b m (asked (length (get_or m i []) + length y))) w (sym e) l) }
+pub pushed : {s s' : Store} {i : ℕ} {y : List ℕ} (r : Result (Unit {0}) Refusal) → bounds s' ≡ bounds s → MatchResult r (λ _. model s' ≡ set (model s) i (get_or (model s) i [] ++ y)) (λ _. model s' ≡ model s) → r ≡ told (get_or (bounds s).1 i false) (enough (bounds s) (model s) (asked (length (get_or (model s) i []) + length y))) → Pushed s s' i y r
+pushed (Ok u) b a e = record { same = b; ok = a; err = tt }
+pushed {s} {i = i} {y = y} (Err w) b a e = record { same = b; ok = tt; err = λ l. short (bounds s) (model s) i (length y) (refused (get_or (bounds s).1 i false) (enough (bounds s) (model s) (asked (length (get_or (model s) i []) + length y))) w (sym e) l) }
 
-pub push_nil : {b : ℕ × List Bool} {i : ℕ} {m : List (List ℕ)} → Pushed b i m m [] (Ok tt)
-push_nil {i = i} {m = m} = record { ok = simp (append-nil, set-get_or); err = tt }
+pub push_nil : {s : Store} {i : ℕ} → Pushed s s i [] (Ok tt)
+push_nil = record { same = refl; ok = simp (append-nil, set-get_or); err = tt }
 
-pub push_more : {b : ℕ × List Bool} {i : ℕ} {m m₁ m₂ : List (List ℕ)} {y z : List ℕ} {u : Unit {0}} {r : Result (Unit {0}) Refusal} → Pushed b i m m₁ y (Ok u) → Pushed b i m₁ m₂ z r → Pushed b i m m₂ (y ++ z) r
-push_more {b} {i} {m} {m₁} {m₂} {y} {z} {r = r} e f = record { ok = on_ok_weaker r (λ (h : m₂ ≡ set m₁ i (get_or m₁ i [] ++ z)). h ∙ ap (λ q. set q i (get_or q i [] ++ z)) e.ok ∙ again m i y z) f.ok; err = on_err_weaker r (λ (h : get_or b.1 i false ≡ true → Scarce b (need m₁ + length z)) (l : get_or b.1 i false ≡ true). omega (arith, h l, need_push m i y, length-append y z, ap need e.ok)) f.err }
+pub push_more : {s s₁ s₂ : Store} {i : ℕ} {y z : List ℕ} {u : Unit {0}} {r : Result (Unit {0}) Refusal} → Pushed s s₁ i y (Ok u) → Pushed s₁ s₂ i z r → Pushed s s₂ i (y ++ z) r
+push_more {s} {s₁} {s₂} {i} {y} {z} {r = r} e f = record { same = f.same ∙ e.same; ok = on_ok_weaker r (λ (h : model s₂ ≡ set (model s₁) i (get_or (model s₁) i [] ++ z)). h ∙ ap (λ q. set q i (get_or q i [] ++ z)) e.ok ∙ again (model s) i y z) f.ok; err = on_err_weaker r later f.err }
+  where
+    later : (get_or (bounds s₁).1 i false ≡ true → Scarce (bounds s₁) (need (model s₁) + length z)) → get_or (bounds s).1 i false ≡ true → Scarce (bounds s) (need (model s) + length (y ++ z))
+    later h l = let k : Scarce (bounds s) (need (model s₁) + length z) = (rw e.same at h) l in omega (arith, k, need_push (model s) i y, length-append y z, ap need e.ok)
 
 -- more was to come
-pub push_fails : {b : ℕ × List Bool} {i : ℕ} {m m₁ : List (List ℕ)} {y : List ℕ} {v w : Refusal} (z : List ℕ) → Pushed b i m m₁ y (Err v) → length y ≤ length z → Pushed b i m m₁ z (Err w)
-push_fails z e h = record { ok = tt; err = λ l. omega (arith, e.err l) }
+pub push_fails : {s s₁ : Store} {i : ℕ} {y : List ℕ} {v w : Refusal} (z : List ℕ) → Pushed s s₁ i y (Err v) → length y ≤ length z → Pushed s s₁ i z (Err w)
+push_fails z e h = record { same = e.same; ok = tt; err = λ l. omega (arith, e.err l) }

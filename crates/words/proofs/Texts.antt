@@ -8,6 +8,8 @@ use Rattle.meaning.specs.System.{QuotedByte, File}
 use Rattle.meaning.specs.Words.{bytes_of, quote_bytes, has_pattern, all_pathnames, join_words}
 use Rattle.words.specs.Encoding.{encoded, coded, marked, plain, Bytes, Small, AllSmall, patterned, any_pattern, shown, rev, word_length, second}
 use Rattle.store.specs.declared.Refusal.{Refusal}
+use Rattle.store.specs.declared.Store.{Store}
+use Rattle.store.specs.Held.{model}
 use Rattle.words.specs.Pushed.{Pushed}
 use Rattle.words.proofs.Pushes.{push_more, differ}
 
@@ -24,7 +26,7 @@ pub coded_is : (q : Bool) (bs : List ℕ) → coded (flag q) bs ≡ encoded (quo
 coded_is q [] = refl
 coded_is q (b ∷ bs) = ap (λ z. (b + 256 * flag q) ∷ z) (coded_is q bs)
 
-pub coded_next : {b : ℕ × List Bool} {i : ℕ} {m m₁ m₂ : List (List ℕ)} (q : ℕ) (bs : List ℕ) (k : ℕ) {u : Unit {0}} {r : Result (Unit {0}) Refusal} → k < length bs → Pushed b i m m₁ (coded q (take k bs)) (Ok u) → Pushed b i m₁ m₂ ((get_or bs k 0 + 256 * q) ∷ []) r → Pushed b i m m₂ (coded q (take (k + 1) bs)) r
+pub coded_next : {s s₁ s₂ : Store} {i : ℕ} (q : ℕ) (bs : List ℕ) (k : ℕ) {u : Unit {0}} {r : Result (Unit {0}) Refusal} → k < length bs → Pushed s s₁ i (coded q (take k bs)) (Ok u) → Pushed s₁ s₂ i ((get_or bs k 0 + 256 * q) ∷ []) r → Pushed s s₂ i (coded q (take (k + 1) bs)) r
 coded_next q bs k l e f = rw (take_more bs k 0 l, coded_append q (take k bs) (get_or bs k 0 ∷ [])) (push_more e f)
 
 pub coded_short : (q : ℕ) (bs : List ℕ) (k : ℕ) → length (coded q (take k bs)) ≤ length (coded q bs)
@@ -107,8 +109,8 @@ rev_push [] b = refl
 rev_push (x ∷ xs) b = ap (λ z. z ++ (x ∷ [])) (rev_push xs b)
 
 -- a list that another's pushes leave as it is
-pub left_alone : {b : ℕ × List Bool} {i j : ℕ} {m m₁ : List (List ℕ)} {y : List ℕ} {u : Unit {0}} → j < i → Pushed b i m m₁ y (Ok u) → get_or m₁ j [] ≡ get_or m j []
-left_alone {i = i} {j = j} {m = m} {y = y} l p = ap (λ z. get_or z j []) p.ok ∙ get_or-set_other m i j (get_or m i [] ++ y) [] (omega arith)
+pub left_alone : {s s₁ : Store} {i j : ℕ} {y : List ℕ} {u : Unit {0}} → j < i → Pushed s s₁ i y (Ok u) → get_or (model s₁) j [] ≡ get_or (model s) j []
+left_alone {s} {i = i} {j = j} {y = y} l p = ap (λ z. get_or z j []) p.ok ∙ get_or-set_other (model s) i j (get_or (model s) i [] ++ y) [] (omega arith)
 
 -- the part of a list from j up to n
 abbrev pub span : List ℕ → ℕ → ℕ → List ℕ
@@ -120,14 +122,14 @@ span_none V n = drop_all n (take n V) (omega (arith, length-take n V))
 pub span_length : (V : List ℕ) (i j n : ℕ) → i ≤ j → length (rev (shown (span V j n))) ≤ length (rev (shown (span V i n)))
 span_length V i j n h = omega (arith, rev_length (shown (span V j n)), shown_length (span V j n), length-drop j (take n V), rev_length (shown (span V i n)), shown_length (span V i n), length-drop i (take n V))
 
-pub back_on : {b : ℕ × List Bool} {f t : ℕ} {m m₁ m₂ : List (List ℕ)} (j n w v : ℕ) {u : Unit {0}} {r : Result (Unit {0}) Refusal} → f < t → 0 < j → j ≤ n → n ≤ length (get_or m f []) → w ≡ get_or (get_or m₁ f []) (j - 1) 0 → v ≡ pick (leb 512 w) 32 (w % 256) → Pushed b t m m₁ (rev (shown (span (get_or m f []) j n))) (Ok u) → Pushed b t m₁ m₂ (v ∷ []) r → Pushed b t m m₂ (rev (shown (span (get_or m f []) (j - 1) n))) r
-back_on {f = f} {m = m} j n w v o z l k d e p q =
+pub back_on : {s s₁ s₂ : Store} {f t : ℕ} (j n w v : ℕ) {u : Unit {0}} {r : Result (Unit {0}) Refusal} → f < t → 0 < j → j ≤ n → n ≤ length (get_or (model s) f []) → w ≡ get_or (get_or (model s₁) f []) (j - 1) 0 → v ≡ pick (leb 512 w) 32 (w % 256) → Pushed s s₁ t (rev (shown (span (get_or (model s) f []) j n))) (Ok u) → Pushed s₁ s₂ t (v ∷ []) r → Pushed s s₂ t (rev (shown (span (get_or (model s) f []) (j - 1) n))) r
+back_on {s} {f = f} j n w v o z l k d e p q =
     let g : j - 1 + 1 ≡ j = omega arith in
-    let y : w ≡ get_or (take n (get_or m f [])) (j - 1) 0 = d ∙ ap (λ z. get_or z (j - 1) 0) (left_alone o p) ∙ sym (get_or-take n (get_or m f []) (j - 1) 0 (omega arith)) in
-    rw (drop_more (take n (get_or m f [])) (j - 1) 0 (omega (arith, length-take n (get_or m f []))), g, ← y, ← e) (push_more p q)
+    let y : w ≡ get_or (take n (get_or (model s) f [])) (j - 1) 0 = d ∙ ap (λ z. get_or z (j - 1) 0) (left_alone o p) ∙ sym (get_or-take n (get_or (model s) f []) (j - 1) 0 (omega arith)) in
+    rw (drop_more (take n (get_or (model s) f [])) (j - 1) 0 (omega (arith, length-take n (get_or (model s) f []))), g, ← y, ← e) (push_more p q)
 
-pub line_on : {b : ℕ × List Bool} {f t : ℕ} {m m₁ m₂ : List (List ℕ)} (i n : ℕ) {u : Unit {0}} {r : Result (Unit {0}) Refusal} → f < t → Pushed b t m m₁ (10 ∷ []) (Ok u) → Pushed b t m₁ m₂ (rev (shown (span (get_or m₁ f []) i n))) r → Pushed b t m m₂ (rev (shown (span (get_or m f []) i n) ++ (10 ∷ []))) r
-line_on {f = f} {m = m} i n o p q = rw (rev_push (shown (span (get_or m f []) i n)) 10, ← left_alone o p) (push_more p q)
+pub line_on : {s s₁ s₂ : Store} {f t : ℕ} (i n : ℕ) {u : Unit {0}} {r : Result (Unit {0}) Refusal} → f < t → Pushed s s₁ t (10 ∷ []) (Ok u) → Pushed s₁ s₂ t (rev (shown (span (get_or (model s₁) f []) i n))) r → Pushed s s₂ t (rev (shown (span (get_or (model s) f []) i n) ++ (10 ∷ []))) r
+line_on {s} {f = f} i n o p q = rw (rev_push (shown (span (get_or (model s) f []) i n)) 10, ← left_alone o p) (push_more p q)
 
 pub line_length : (V : List ℕ) (i n : ℕ) → 1 ≤ length (rev (shown (span V i n) ++ (10 ∷ [])))
 line_length V i n = omega (arith, rev_length (shown (span V i n) ++ (10 ∷ [])), length-append (shown (span V i n)) (10 ∷ []))

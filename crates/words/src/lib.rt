@@ -1,8 +1,9 @@
-//! Words pushed onto lists of a store, and how words of the shell and texts are encoded there (specs/Encoding.antt).
+//! Words pushed onto lists of a store, how words of the shell and texts are encoded there (specs/Encoding.antt), and what stands
+//! on the paper (specs/Paper.antt).
 #![tactic(auto)]
 
-ghost use Rattle.std.specs.Prelude.{◌≡◌, ℕ, ◌+◌, ◌-◌, ◌*◌, ◌<◌, ◌≤◌, List, [], ◌∷◌, ◌++◌, length, slice_index_or};
-ghost use Rattle.store.specs.Held.{model, bounds};
+ghost use Rattle.std.specs.Prelude.{[], slice_index_or};
+ghost use Rattle.store.specs.Held.{model};
 ghost use Rattle.words.specs.Pushed.{Pushed};
 
 use store::{Refusal, Store};
@@ -15,16 +16,14 @@ pub const QUOTED: u32 = 256;
 
 /// The words ws behind list i, or a refusal.
 pub fn extend(st: &mut Store, i: usize, ws: &[u32]) -> Result<(), Refusal>
-    ensures same { bounds st.new ≡ bounds st.old }
-    ensures says { Pushed (bounds st.old) i (model st.old) (model st.new) ws.now result }
+    ensures { Pushed st.old st.new i ws.now result }
 {
     st.extend(i, ws)
 }
 
 /// List j behind list i, or a refusal.
 pub fn append(st: &mut Store, i: usize, j: usize) -> Result<(), Refusal>
-    ensures same { bounds st.new ≡ bounds st.old }
-    ensures says { Pushed (bounds st.old) i (model st.old) (model st.new) (slice_index_or (model st.old) j []) result }
+    ensures { Pushed st.old st.new i (slice_index_or (model st.old) j []) result }
 {
     st.append(i, j)
 }

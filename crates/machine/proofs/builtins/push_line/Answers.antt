@@ -5,10 +5,10 @@ use Rattle.words.proofs.Pushes.{push_fails}
 use Rattle.words.proofs.Texts.{line_on, line_length}
 use Rattle.machine.proofs.builtins.push_line.Goals as goal
 
-pub returns-in_err-extend-clause-says : goal.returns-in_err-extend-clause-says
-returns-in_err-extend-clause-says c =
+pub returns-in_err-extend : goal.returns-in_err-extend
+returns-in_err-extend c =
     let p = err_from_is_err_and c.from_residual.result c.from_residual.ensures.1 in
-    rw p.1 (push_fails _ c.in_err-extend.ensures.says (line_length (get_or (model c.args.st.now) c.args.from []) c.args.low c.args.high))
+    rw p.1 (push_fails _ c.in_err-extend.ensures (line_length (get_or (model c.args.st.now) c.args.from []) c.args.low c.args.high))
 
-pub returns-clause-says : goal.returns-clause-says
-returns-clause-says c = line_on c.args.low c.args.high c.requires.lists c.in_ok-extend.ensures.says (rw c.extend.ensures.same at c.push_reversed.ensures.says)
+pub returns : goal.returns
+returns c = line_on c.args.low c.args.high c.requires.lists c.in_ok-extend.ensures c.push_reversed.ensures

@@ -1,4 +1,4 @@
-use Rattle.std.proofs.Common.{◌≡◌, ℕ, ◌+◌, ◌<◌, Bool, List, Bor, refl, arith}
+use Rattle.std.proofs.Common.{◌≡◌, ℕ, ◌+◌, ◌<◌, Bool, List, Bor, refl, arith, rules}
 use Rattle.std.proofs.lemmas.Result.{err_from_is_err_and}
 use Rattle.code.specs.declared.cells.Part.{Part}
 use Rattle.code.specs.declared.cells.Part.TheVariants.{Literal, Parameter, Substitution}
@@ -13,19 +13,19 @@ no_literal text code a (Literal q s) h n = absurd (n q s refl)
 no_literal text code a (Parameter q s) h n = omega (arith, h.0)
 no_literal text code a (Substitution q l) h n = omega (arith, h.0)
 
-pub returns-in_default-clause-says : goal.returns-in_default-clause-says
-returns-in_default-clause-says t = record { says = λ number r c k h. part_beyond t.args.expansion t.requires.control t.requires.parts (omega (arith, t.in_default.ensures)) h }
+pub returns-in_default : goal.returns-in_default
+returns-in_default t = record { same = search rules; says = λ number r c k h. part_beyond t.args.expansion t.requires.control t.requires.parts (omega (arith, t.in_default.ensures)) h }
 
-pub returns-in_default-part-clause-says : goal.returns-in_default-part-clause-says
-returns-in_default-part-clause-says t = record { says = λ number r c k h. part_beyond t.args.expansion t.requires.control t.requires.parts (no_literal t.args.code.text.now t.args.code.words.now t.args.expansion.parts t.in-Some.part t.in-Some.ensures t.in_default-part.not-Literal) h }
+pub returns-in_default-part : goal.returns-in_default-part
+returns-in_default-part t = record { same = search rules; says = λ number r c k h. part_beyond t.args.expansion t.requires.control t.requires.parts (no_literal t.args.code.text.now t.args.code.words.now t.args.expansion.parts t.in-Some.part t.in-Some.ensures t.in_default-part.not-Literal) h }
 
-pub returns-in_err-push_literal-clause-says : goal.returns-in_err-push_literal-clause-says
-returns-in_err-push_literal-clause-says t =
+pub returns-in_err-push_literal : goal.returns-in_err-push_literal
+returns-in_err-push_literal t =
     let i = rw t.in-Literal.is at t.in-Some.ensures in
     let p = err_from_is_err_and t.from_residual.result t.from_residual.ensures.1 in
-    rw (p.1, p.2) (record { says = λ number r c k h. part_tight t.args.expansion t.in-Literal.quoted t.in-Literal.bytes.now t.requires.control t.requires.parts i.0 (part_cell t.args.code.text.now t.args.code.words.now t.args.expansion.parts i.1) (rw t.words.ensures at t.in_err-push_literal.ensures.says.err) h })
+    rw (p.1, p.2) (record { same = search rules; says = λ number r c k h. part_tight t.args.expansion t.in-Literal.quoted t.in-Literal.bytes.now t.requires.control t.requires.parts i.0 (part_cell t.args.code.text.now t.args.code.words.now t.args.expansion.parts i.1) (rw t.words.ensures at t.in_err-push_literal.ensures.pushed.err) h })
 
-pub returns-clause-says : goal.returns-clause-says
-returns-clause-says t =
+pub returns : goal.returns
+returns t =
     let i = rw t.in-Literal.is at t.in-Some.ensures in
-    rw (t.goes_to.ensures, t.word.ensures) (record { says = λ number r c k h. part_on t.args.expansion t.in-Literal.quoted t.in-Literal.bytes.now t.push_literal.ensures.bytes t.requires.control t.requires.parts i.0 (part_cell t.args.code.text.now t.args.code.words.now t.args.expansion.parts i.1) (rw t.words.ensures at t.in_ok-push_literal.ensures.says.ok) h })
+    rw (t.goes_to.ensures, t.word.ensures) (record { same = search rules; says = λ number r c k h. part_on t.args.expansion t.in-Literal.quoted t.in-Literal.bytes.now t.push_literal.ensures.bytes t.requires.control t.requires.parts i.0 (part_cell t.args.code.text.now t.args.code.words.now t.args.expansion.parts i.1) (rw t.words.ensures at t.in_ok-push_literal.ensures.pushed.ok) h })

@@ -1,13 +1,18 @@
-use Rattle.std.proofs.Common.{◌∙◌, arith}
+use Rattle.std.proofs.Common.{arith}
 use Rattle.std.proofs.lemmas.Result.{err_from_is_err_and}
-use Rattle.machine.proofs.Decimals.{digits_next, digits_fails, digits_last}
+use Rattle.machine.proofs.Decimals.{digits_none, digits_next, digits_fails, digits_last}
 use Rattle.machine.proofs.print.push_decimal.Goals as goal
 
-pub returns-in_err-extend-clause-says : goal.returns-in_err-extend-clause-says
-returns-in_err-extend-clause-says c = let i = c.loop-rest.invariant in let p = err_from_is_err_and c.from_residual.result c.from_residual.ensures.1 in rw p.1 (digits_fails i.digits (omega arith) (rw i.same at c.in_err-extend.ensures.says))
+pub loop-rest-init : goal.loop-rest-init
+loop-rest-init c = digits_none c.args.n
+
+pub returns-in_err-extend : goal.returns-in_err-extend
+returns-in_err-extend c =
+    let p = err_from_is_err_and c.from_residual.result c.from_residual.ensures.1 in
+    rw p.1 (digits_fails c.loop-rest.invariant (omega arith) c.in_err-extend.ensures)
 
 pub loop-rest-preserved : goal.loop-rest-preserved
-loop-rest-preserved c = let i = c.loop-rest.invariant in record { same = c.extend.ensures.same ∙ i.same; digits = digits_next i.digits (omega arith) (rw i.same at c.in_ok-extend.ensures.says) }
+loop-rest-preserved c = digits_next c.loop-rest.invariant (omega arith) c.in_ok-extend.ensures
 
-pub returns-clause-says : goal.returns-clause-says
-returns-clause-says c = let i = c.loop-rest.invariant in digits_last i.digits (omega arith) (rw i.same at c.extend-2.ensures.says)
+pub returns : goal.returns
+returns c = digits_last c.loop-rest.invariant (omega arith) c.extend-2.ensures

@@ -3,10 +3,10 @@ use Rattle.words.proofs.Pushes.{push_fails}
 use Rattle.machine.proofs.Decimals.{decimal_line, line_longer}
 use Rattle.machine.proofs.print.push_number.Goals as goal
 
-pub returns-in_err-extend-clause-says : goal.returns-in_err-extend-clause-says
-returns-in_err-extend-clause-says c =
+pub returns-in_err-extend : goal.returns-in_err-extend
+returns-in_err-extend c =
     let p = err_from_is_err_and c.from_residual.result c.from_residual.ensures.1 in
-    rw p.1 (push_fails _ c.in_err-extend.ensures.says (line_longer c.args.n))
+    rw p.1 (push_fails _ c.in_err-extend.ensures (line_longer c.args.n))
 
-pub returns-clause-says : goal.returns-clause-says
-returns-clause-says c = decimal_line c.args.n c.in_ok-extend.ensures.says (rw c.extend.ensures.same at c.push_decimal.ensures.says)
+pub returns : goal.returns
+returns c = decimal_line c.args.n c.in_ok-extend.ensures c.push_decimal.ensures
