@@ -73,6 +73,3 @@ module _ (t : List ℕ) (n i d : ℕ) (w : List ℕ) (top link s : ℕ) {m : Lis
 
                   stages : (s a b c : ℕ) → max (max (max s a) b) c ≡ max s (max (max (max a b) (max c 0)) (max 0 0))
                   stages s a b c = rw (zeros (max (max a b) (max c 0)), no_zero c) (simp max_assoc)
-
-  pub ended_elses : n ≤ i → (level d).elses (tokens_from t i) ≡ none
-  ended_elses l = elses_are d (tokens_from t i) z ∙ rw (there i hs l)

@@ -62,9 +62,6 @@ part_low t n i d m w top q s0 st s k h sp l z e f g =
     let stg : st ≡ part_stage x.0 = g ∙ (ap (λ b. tag_stage q b) tb ∙ (ap (λ z. tag_stage z p.bytes) qk ∙ sym x.3)) in
     record { tree = x.0; is = ap (parse_part (level d)) (here i h l) ∙ x.1 (level d) (tokens_from t (i + 1)); coded = (x.2 top (top + 4) _ (get_or-set_other w2 (top + 3) (top + 1) k 0 (omega arith) ∙ (get_or-set_other w1 (top + 2) (top + 1) s 0 (omega arith) ∙ (get_or-set_same w (top + 1) q 0 (omega arith) ∙ qk))) bytes, omega arith); staged = ap (max s0) stg; kept = λ j a b. get_or-set_other w2 (top + 3) j k 0 (omega arith) ∙ (get_or-set_other w1 (top + 2) j s 0 (omega arith) ∙ get_or-set_other w (top + 1) j q 0 (omega arith)); goes = omega arith; within = omega arith; above = omega arith; fits = omega (arith, length-set w2 (top + 3) k, length-set w1 (top + 2) s, length-set w (top + 1) q); room = omega arith }
 
-pub part_ended : {t : List ℕ} {n : ℕ} {m : List ℕ} (S : Deeper) (i : ℕ) → Has t n m → n ≤ i → parse_part S (tokens_from t i) ≡ none
-part_ended S i h l = ap (parse_part S) (there i h l)
-
 run_is : (k : ℕ) (b : List ℕ) → 5 ≤ k → k ≤ 6 → b ≡ [] → (f : Bool) × (k - 1 ≡ 4 + flag f) × ((S : Deeper) (r : List Token) → parse_part_go S k b r ≡ parse_substitution S f [] r)
 run_is (suc (suc (suc (suc (suc zero))))) b x y e = (false, refl, λ S r. rw e)
 run_is (suc (suc (suc (suc (suc (suc zero)))))) b x y e = (true, refl, λ S r. rw e)

@@ -37,9 +37,6 @@ module _ (t : List ℕ) (n i d : ℕ) (w : List ℕ) (top s : ℕ) {m : List ℕ
   plain_got e z y ye {w1} {j} {free} {s1} g = record { tree = (false, g.tree); is = rw (e, g.is); coded = (g.above, g.kept (top + 2) (omega arith) (omega arith) ∙ (get_or-set_same w (top + 2) y 0 (omega arith) ∙ ye), g.coded); staged = g.staged; kept = λ k x u. g.kept k (omega arith) (omega arith) ∙ get_or-set_other w (top + 2) k y 0 (omega arith); goes = g.goes; within = g.within; above = omega (arith, g.above); fits = g.fits; room = omega (arith, g.room) }
 
   module _ (e : is_not (lookahead (tokens_from t i)) ≡ true) where
-    pub not_none : (code_at (tokens_from t i) ≡ 31 → ⊥) → parse_negatable (level d) (tokens_from t i) ≡ none
-    not_none f = rw (e, no_not hs i f)
-
     module _ (l : (i < n) × (code_at (tokens_from t i) ≡ 31)) where
       pub negated_none : parse_pipeline (level d) (tokens_from t (i + 1)) ≡ none → parse_negatable (level d) (tokens_from t i) ≡ none
       negated_none f = rw (e, got_not hs i l.0 l.1, f)

@@ -19,22 +19,6 @@ use Rattle.reader.proofs.Frame.{parts_frame}
 use Rattle.reader.proofs.Sets.{SetAt, none_at, some_at, set_is, bytes1, tag1}
 use Rattle.reader.proofs.Chains.{Chain, chain, step, finish, fail}
 
-pub value_none : (t : List ℕ) (d i s l : ℕ) → parse_more (level d) (tokens_from t i) ≡ none → value_of t d i s l ≡ none
-value_none t d i s l e = rw e
-
-pub value_empty : (t : List ℕ) (n i d s l : ℕ) (w : List ℕ) (top link : ℕ) {w1 : List ℕ} {j free s0 s1 : ℕ} → take l (drop s t) ≡ [] → GotMore t n i d w w1 top link j free s0 s1 → GotValue t n i d s l w w1 top link j free s0 s1
-value_empty t n i d s l w top link e g = record { tree = g.tree; is = rw (g.is, e); coded = g.coded; staged = g.staged; kept = g.kept; goes = g.goes; within = g.within; above = g.above; fits = g.fits; room = omega (arith, g.room) }
-
-pub take_no : (t : List ℕ) (s l : ℕ) → l ≡ 0 → take l (drop s t) ≡ []
-take_no t s l e = rw e
-
-pub take_past : (t : List ℕ) (s l : ℕ) → length t ≤ s → take l (drop s t) ≡ []
-take_past t s l e = rw (drop_all s t e) (nil l)
-  where
-    nil : (l : ℕ) → take {A = ℕ} l [] ≡ []
-    nil zero = refl
-    nil (suc l) = refl
-
 only1_some : (b : List ℕ) (w : Word) → 0 < length b → put_before b w ≡ and_part (literal false b) w
 only1_some [] w h = absurd (omega arith)
 only1_some (c ∷ b) w h = refl

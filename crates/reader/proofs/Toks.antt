@@ -151,7 +151,3 @@ eat_key b (p ∷ r) e l = go (key_go p.joined p.kind p.bytes (omega (arith, e)) 
   where
     go : Key p.joined p.kind p.bytes (token_code p) → pick (same_token p (keyword b)) (some r) none ≡ some r
     go (a_key u v z) = rw (u, eqb_yes p.kind 0 v, key_eq p.bytes b (omega (arith, z, e)) l, same_re b)
-
-pub keys_are : (keyword_index kw_then ≡ 2) × (keyword_index kw_elif ≡ 3) × (keyword_index kw_else ≡ 4) × (keyword_index kw_fi ≡ 5) × (keyword_index kw_do ≡ 7) × (keyword_index kw_done ≡ 8) × (keyword_index kw_in ≡ 10) × (keyword_index kw_esac ≡ 12) × (keyword_index kw_close ≡ 14)
-unfolding keyword_index
-keys_are = (refl, refl, refl, refl, refl, refl, refl, refl, refl)
