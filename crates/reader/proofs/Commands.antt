@@ -1,23 +1,16 @@
 -- Which command it is, by what stands ahead.
 use Rattle.std.proofs.Common.{◌≡◌, ℕ, zero, suc, ◌+◌, ◌-◌, ◌<◌, ◌≤◌, Bool, true, false, ◌&&◌, T, eqb, leb, ◌≢◌, ◌⊎◌, List, [], ◌∷◌, length, get_or, sym, refl, ap, ◌∙◌, subst, inl, inr, arith, eqb→eq, leb→le}
-use mathlib.Core.Option.{none}
 use Rattle.std.proofs.lemmas.List.{drop_all, drop_more}
 use Rattle.grammar.specs.Tokens.{Token, token}
-use Rattle.grammar.specs.Parser.{Parsed, Deeper, Lookahead, la_end, la_odd, la_part, keyword_table, sign_table, lookahead, is_paren, function_at, after_first, parse_command, parse_command_by, parse_function, parse_simple}
-use Rattle.syntax.specs.Tree.{Command}
+use Rattle.grammar.specs.Parser.{Lookahead, la_end, la_odd, la_part, keyword_table, sign_table, lookahead, is_paren, function_at, after_first}
 use Rattle.lexer.specs.Stored.{token_code_of, tokens_of, tokens_from, code_at, Has, sign_code, token_code}
 use Rattle.grammar.proofs.Fit.{by_bool}
 use Rattle.lexer.proofs.Next.{eqb_no, eqb_yes}
 use Rattle.lexer.proofs.Runs.{leb_no, leb_yes}
 use Rattle.syntax.specs.Base.{pick}
-use Rattle.reader.specs.Reading.{GotCommand, joins, bare, lookahead_by, nth_lookahead}
-use Rattle.reader.specs.Aheads.{la_of}
-use Rattle.reader.specs.declared.ahead.Ahead.{Ahead}
-use Rattle.reader.specs.declared.ahead.Ahead.TheVariants.{End, Odd, Part, Keyword, Sign}
-use Rattle.lexer.specs.declared.token.Keyword.TheVariants.{When, If, Then, Elif, Else, Fi, While, Do, Done, For, In, Case, Esac, OpenBrace, CloseBrace, Not}
-use Rattle.lexer.specs.declared.token.Sign.TheVariants.{Semicolon, Newline, Ampersand, Pipe, Redirect, OpenParen, CloseParen, And, Or, DoubleSemicolon}
+use Rattle.reader.specs.Reading.{joins, bare, lookahead_by, nth_lookahead}
 use Rattle.reader.proofs.Basics.{lt_or}
-use Rattle.reader.proofs.Views.{here, there, sign_in, Bare, b_none, b_name, b_key, b_set, bare_in}
+use Rattle.reader.proofs.Views.{here, sign_in, Bare, b_none, b_name, b_key, b_set, bare_in}
 use Rattle.reader.proofs.Toks.{tok_is}
 
 pub after_from : (t : List ℕ) (i : ℕ) → after_first (tokens_from t i) ≡ tokens_from t (i + 1)

@@ -10,7 +10,6 @@ use Rattle.reader.specs.Reading.{GotList, GotElse, Nest}
 use Rattle.reader.proofs.Basics.{max_assoc}
 use Rattle.reader.proofs.Frame.{list_frame}
 use Rattle.reader.proofs.Levels.{lists_are, elses_are}
-use Rattle.reader.proofs.Views.{there}
 use Rattle.reader.proofs.Expects.{got_fi, no_fi, got_else, no_else_key, got_elif, no_elif, got_then, no_then}
 
 module _ (t : List ℕ) (n i d : ℕ) (w : List ℕ) (top link s : ℕ) {m : List ℕ} (hs : Has t n m) (z : 0 < d) (le : top ≤ length w) (lt : link < top) where

@@ -1,5 +1,5 @@
 -- Parts and words.
-use Rattle.std.proofs.Common.{◌≡◌, ℕ, zero, suc, ◌+◌, ◌-◌, ◌*◌, ◌<◌, ◌≤◌, max, Bool, true, false, ◌≢◌, List, [], ◌∷◌, length, get_or, take, drop, set, sym, refl, ap, ◌∙◌, subst, arith, length-set}
+use Rattle.std.proofs.Common.{◌≡◌, ℕ, zero, suc, ◌+◌, ◌-◌, ◌<◌, ◌≤◌, max, Bool, true, false, ◌≢◌, List, [], ◌∷◌, length, get_or, take, drop, set, sym, refl, ap, ◌∙◌, subst, arith, length-set}
 use mathlib.Core.Option.{some, none}
 use Rattle.std.proofs.lemmas.List.{get_or-set_same, get_or-set_other}
 use Rattle.syntax.specs.Base.{on_some}
@@ -12,7 +12,7 @@ use Rattle.lexer.specs.Stored.{Spelled, token_code, tokens_of, tokens_from, Has,
 use Rattle.syntax.specs.Stage.{part_stage, word_stage}
 use Rattle.reader.specs.Reading.{part_tag, tag_stage, joins, GotPart, GotMore, GotWord, GotList}
 use Rattle.reader.proofs.Eats.{eat_sign, eat_no, code_41}
-use Rattle.reader.proofs.Views.{View, v_low, v_run, v_none, view, here, there, glued_is}
+use Rattle.reader.proofs.Views.{View, v_low, v_run, v_none, view, here, glued_is}
 use Rattle.reader.proofs.Frame.{part_frame}
 use Rattle.reader.proofs.Chains.{Chain, chain, step, finish, fail}
 

@@ -10,7 +10,7 @@ use Rattle.code.specs.Layout.{PipelineAt}
 use Rattle.reader.specs.Reading.{GotCommand, GotPipeline, GotNegatable}
 use Rattle.reader.proofs.Frame.{command_frame}
 use Rattle.reader.proofs.Chains.{Chain, chain, step, close, fail}
-use Rattle.reader.proofs.Expects.{got_pipe_sign, no_pipe_sign, got_not, no_not}
+use Rattle.reader.proofs.Expects.{got_pipe_sign, no_pipe_sign, got_not}
 
 pub pipeline_hold : (t : List ℕ) (n i d : ℕ) (m w : List ℕ) (top link s : ℕ) → Has t n m → i ≤ n → top ≤ length w → link < top → Chain Pipeline pipeline_stage (parse_pipeline_go (level d)) (PipelineAt t) t n i w w top link i top link s s
 pipeline_hold t n i d m w top link s h = chain Pipeline pipeline_stage (parse_pipeline_go (level d)) (PipelineAt t) t n i w top link s h.count

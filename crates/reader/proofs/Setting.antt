@@ -1,7 +1,7 @@
 -- Assignments, as a chain.
-use Rattle.std.proofs.Common.{◌≡◌, ℕ, zero, suc, ◌+◌, ◌-◌, ◌*◌, ◌<◌, ◌≤◌, max, false, List, [], ◌∷◌, ◌++◌, length, get_or, take, drop, set, sym, refl, ap, ◌∙◌, subst, arith, length-set}
+use Rattle.std.proofs.Common.{◌≡◌, ℕ, zero, suc, ◌+◌, ◌-◌, ◌<◌, ◌≤◌, max, false, List, [], ◌∷◌, ◌++◌, length, get_or, take, drop, set, sym, refl, ap, ◌∙◌, subst, arith, length-set}
 use mathlib.Core.Option.{some, none}
-use Rattle.std.proofs.lemmas.List.{get_or-set_same, get_or-set_other, drop_all, drop_more, take-take, take_at, drop_at, drop-take, drop-drop, length-append, length-take, length-drop}
+use Rattle.std.proofs.lemmas.List.{get_or-set_same, get_or-set_other, drop_more, take-take, take_at, drop_at, drop-take, drop-drop, length-append, length-take}
 use Rattle.syntax.specs.Base.{on_some}
 use Rattle.syntax.specs.Tree.{Word, and_part, literal, Assignments, no_assignments, assign}
 use Rattle.grammar.specs.Tokens.{Token, token}
@@ -12,7 +12,7 @@ use Rattle.lexer.specs.Stored.{Spelled, tokens_of, tokens_from, Has, code_at}
 use Rattle.syntax.specs.Stage.{word_stage, assignments_stage, has_wildcard}
 use Rattle.syntax.specs.Base.{pick}
 use Rattle.reader.specs.Reading.{GotMore, GotValue, value_of, GotAssignments}
-use Rattle.reader.proofs.Views.{here, there}
+use Rattle.reader.proofs.Views.{here}
 use Rattle.reader.proofs.Basics.{not_none}
 use Rattle.grammar.proofs.Find.{some_is}
 use Rattle.reader.proofs.Frame.{parts_frame}

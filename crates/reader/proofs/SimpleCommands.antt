@@ -1,5 +1,5 @@
 -- Simple commands.
-use Rattle.std.proofs.Common.{◌≡◌, ℕ, ◌+◌, ◌<◌, ◌≤◌, Bool, true, false, ◌≢◌, List, [], length, get_or, set, sym, refl, ap, ◌∙◌, subst, arith, length-set}
+use Rattle.std.proofs.Common.{◌≡◌, ℕ, ◌+◌, ◌<◌, ◌≤◌, Bool, true, false, ◌≢◌, List, [], length, get_or, set, sym, refl, ap, ◌∙◌, arith, length-set}
 use mathlib.Core.Option.{some, none}
 use Rattle.std.proofs.lemmas.List.{get_or-set_same, get_or-set_other}
 use Rattle.syntax.specs.Tree.{Word, no_words, and_word, Assignments, no_assignments, assign, no_redirects, simple}
@@ -8,7 +8,7 @@ use Rattle.grammar.specs.Parser.{Parsed, level, parse_word, parse_words, parse_r
 use Rattle.code.specs.Layout.{AssignmentsAt}
 use Rattle.lexer.specs.Stored.{tokens_of, tokens_from, Has, code_at}
 use Rattle.reader.specs.Reading.{ends_words, joins, may_be_first, GotAssignments, GotWord, GotWords, GotRedirects, GotCommand}
-use Rattle.reader.proofs.Views.{here, there, glued_is}
+use Rattle.reader.proofs.Views.{here, glued_is}
 use Rattle.reader.proofs.Frame.{parts_frame, assignments_frame, words_frame}
 use Rattle.reader.proofs.Signs.{ends_is}
 use Rattle.reader.proofs.Basics.{max_assoc}

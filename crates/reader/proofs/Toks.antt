@@ -4,7 +4,7 @@ use mathlib.Core.Option.{Option, some, none}
 use lib.Dec.{nleb→lt}
 use Rattle.syntax.specs.Base.{pick, same, Name, valid_name}
 use Rattle.grammar.specs.Tokens.{Token}
-use Rattle.grammar.specs.Grammar.{keyword, kw_then, kw_elif, kw_else, kw_fi, kw_do, kw_done, kw_in, kw_esac, kw_close, split_equals, Split, reserved}
+use Rattle.grammar.specs.Grammar.{keyword, split_equals, Split, reserved}
 use Rattle.grammar.specs.Parser.{expect, same_token, Lookahead, la_odd, la_part, Entry, look_up, keyword_table, sign_table, lookahead, lookahead_of, next_joined, after_first}
 use Rattle.lexer.specs.Stored.{index_of, keyword_index, bare_code, assignment_code, word_code, sign_code, sign_names, token_code_of, token_code, code_at}
 use Rattle.reader.specs.Reading.{joins, nth_lookahead, lookahead_by}
