@@ -12,7 +12,7 @@ use crate::stage;
 use code::CommandTag;
 use lexer::{Keyword, Sign, Token};
 
-/// Whether a token joins two pipelines, and then whether it is && .
+/// Whether a token joins two pipelines, and then whether it is &&.
 fn joint(token: Option<Token>) -> Option<bool>
     ensures { IsJoint (next_code token) result }
 {

@@ -1,4 +1,4 @@
-use Rattle.std.proofs.Common.{rules, ℕ, ◌+◌, ◌-◌, max, take, drop, length-set, sym, refl, ap, ◌∙◌, arith}
+use Rattle.std.proofs.Common.{rules, ℕ, ◌+◌, ◌-◌, max, take, drop, length-set, sym, refl, ap, ◌∙◌, inl, inr, arith}
 use Rattle.std.proofs.lemmas.Result.{on_ok_weaker, on_err_weaker}
 use Rattle.grammar.specs.Parser.{level, ends_list, is_newline, is_not}
 use Rattle.syntax.specs.Base.{pick}
@@ -16,7 +16,7 @@ use Rattle.reader.proofs.Compounds.{case_1, case_2, case_3, case_4, case_5, case
 use Rattle.reader.proofs.Elses.{fi_got, else_none, else_open, else_got, elif_no, elif_1, elif_2, elif_3, elif_4, elif_got}
 use Rattle.reader.proofs.Levels.{no_elses, no_lists}
 use Rattle.reader.proofs.Lists.{list_hold, list_close, list_blank, list_1, list_next, list_open, list_last, inside}
-use Rattle.reader.proofs.Parts.{more_holds, more_ends, more_fails, more_steps, part_none, part_low, run_none, run_open, run_got, word_sticky, word_got}
+use Rattle.reader.proofs.Parts.{more_holds, more_ends, more_fails, more_steps, part_none, part_low, run_none, run_open, run_got, word_sticky, word_no_part, word_none, word_got}
 use Rattle.reader.proofs.Pipelines.{plain_none, plain_got, negated_none, negated_got, pipeline_hold, pipeline_fail, pipeline_end, pipeline_step}
 use Rattle.reader.proofs.Lines.{redirects_hold, redirects_end, redirects_fail, redirects_step, words_hold, words_end, words_fail, words_step}
 use Rattle.reader.proofs.SimpleCommands.{empty_none, alone_got, sticky_none, not_first, word_out, words_out, redirects_out, simple_got}
@@ -80,7 +80,7 @@ pub case_command-returns-clause-no_command : goal.case_command-returns-clause-no
 case_command-returns-clause-no_command t c = on_err_weaker _ (λ e. case_6 c.args.self.now.tokens.text.now c.args.self.now.tokens.count c.args.cursor.now.at c.args.self.now.left c.args.cursor.now.code.now c.args.cursor.now.free c.args.cursor.now.stage c.args.self.now.tokens.has c.in_ok-keyword.ensures.found c.max-cursor.result c.max-cursor.ensures c.in_ok-word.ensures.read c.in_ok-keyword-2.ensures.found c.in_ok-arms.ensures.read c.in_ok-keyword-3.ensures.found e) c.redirects.ensures.no_redirects
 
 pub case_command-returns-clause-read : goal.case_command-returns-clause-read
-case_command-returns-clause-read t c = on_ok_weaker _ (λ g. case_got c.args.self.now.tokens.text.now c.args.self.now.tokens.count c.args.cursor.now.at c.args.self.now.left c.args.cursor.now.code.now c.args.cursor.now.free c.args.cursor.now.stage c.args.self.now.tokens.has c.in_ok-keyword.ensures.found c.max-cursor.result c.max-cursor.ensures c.in_ok-word.ensures.read c.in_ok-keyword-2.ensures.found c.in_ok-arms.ensures.read c.in_ok-keyword-3.ensures.found (omega (arith, c.requires.room.room, c.requires.some)) g) c.redirects.ensures.read
+case_command-returns-clause-read t c = on_ok_weaker _ (λ g. case_got c.args.self.now.tokens.text.now c.args.self.now.tokens.count c.args.cursor.now.at c.args.self.now.left c.args.cursor.now.code.now c.args.cursor.now.free c.args.cursor.now.stage c.args.self.now.tokens.has c.in_ok-keyword.ensures.found c.max-cursor.result c.max-cursor.ensures c.in_ok-word.ensures.read c.in_ok-keyword-2.ensures.found c.in_ok-arms.ensures.read c.in_ok-keyword-3.ensures.found (omega (arith, c.requires.room, c.in_ok-keyword.ensures.found.0)) g) c.redirects.ensures.read
 
 pub case_command-returns-in_err-arms-clause-no_command : goal.case_command-returns-in_err-arms-clause-no_command
 case_command-returns-in_err-arms-clause-no_command t c = on_err _ (case_4 c.args.self.now.tokens.text.now c.args.self.now.tokens.count c.args.cursor.now.at c.args.self.now.left c.args.cursor.now.code.now c.args.cursor.now.free c.args.cursor.now.stage c.args.self.now.tokens.has c.in_ok-keyword.ensures.found c.max-cursor.result c.max-cursor.ensures c.in_ok-word.ensures.read c.in_ok-keyword-2.ensures.found c.in_err-arms.ensures.no_arms)
@@ -134,7 +134,7 @@ pub for_loop-returns-clause-no_command : goal.for_loop-returns-clause-no_command
 for_loop-returns-clause-no_command t c = on_err_weaker _ (λ e. for_9 c.args.self.now.tokens.text.now c.args.self.now.tokens.count c.args.cursor.now.at c.args.self.now.left c.args.cursor.now.code.now c.args.cursor.now.free c.args.cursor.now.stage c.args.self.now.tokens.has c.in_ok-keyword.ensures.found (next_code c.peek.result) c.peek.ensures (sym c.if-not-is_name.ensures) (before (c.args.cursor.now.at + 1) c.args.self.now.tokens.has (λ e. true_false (c.if-not-is_name.ensures ∙ ap names (c.peek.ensures ∙ e)))) c.span-name.result.start c.span-name.result.len c.span-name.ensures.spelled c.in_ok-keyword-2.ensures.found c.max-cursor.result c.max-cursor.ensures c.in_ok-words.ensures.read c.in_ok-separator.ensures.found c.in_ok-keyword-3.ensures.found c.in_ok-list.ensures.read c.in_ok-keyword-4.ensures.found e) c.redirects.ensures.no_redirects
 
 pub for_loop-returns-clause-read : goal.for_loop-returns-clause-read
-for_loop-returns-clause-read t c = on_ok_weaker _ (λ g. for_got c.args.self.now.tokens.text.now c.args.self.now.tokens.count c.args.cursor.now.at c.args.self.now.left c.args.cursor.now.code.now c.args.cursor.now.free c.args.cursor.now.stage c.args.self.now.tokens.has c.in_ok-keyword.ensures.found (next_code c.peek.result) c.peek.ensures (sym c.if-not-is_name.ensures) (before (c.args.cursor.now.at + 1) c.args.self.now.tokens.has (λ e. true_false (c.if-not-is_name.ensures ∙ ap names (c.peek.ensures ∙ e)))) c.span-name.result.start c.span-name.result.len c.span-name.ensures.spelled c.in_ok-keyword-2.ensures.found c.max-cursor.result c.max-cursor.ensures c.in_ok-words.ensures.read c.in_ok-separator.ensures.found c.in_ok-keyword-3.ensures.found c.in_ok-list.ensures.read c.in_ok-keyword-4.ensures.found (omega (arith, c.requires.room.room, c.requires.some)) g) c.redirects.ensures.read
+for_loop-returns-clause-read t c = on_ok_weaker _ (λ g. for_got c.args.self.now.tokens.text.now c.args.self.now.tokens.count c.args.cursor.now.at c.args.self.now.left c.args.cursor.now.code.now c.args.cursor.now.free c.args.cursor.now.stage c.args.self.now.tokens.has c.in_ok-keyword.ensures.found (next_code c.peek.result) c.peek.ensures (sym c.if-not-is_name.ensures) (before (c.args.cursor.now.at + 1) c.args.self.now.tokens.has (λ e. true_false (c.if-not-is_name.ensures ∙ ap names (c.peek.ensures ∙ e)))) c.span-name.result.start c.span-name.result.len c.span-name.ensures.spelled c.in_ok-keyword-2.ensures.found c.max-cursor.result c.max-cursor.ensures c.in_ok-words.ensures.read c.in_ok-separator.ensures.found c.in_ok-keyword-3.ensures.found c.in_ok-list.ensures.read c.in_ok-keyword-4.ensures.found (omega (arith, c.requires.room, c.in_ok-keyword.ensures.found.0)) g) c.redirects.ensures.read
 
 pub for_loop-returns-in_err-keyword-2-clause-no_command : goal.for_loop-returns-in_err-keyword-2-clause-no_command
 for_loop-returns-in_err-keyword-2-clause-no_command t c = on_err _ (for_3 c.args.self.now.tokens.text.now c.args.self.now.tokens.count c.args.cursor.now.at c.args.self.now.left c.args.cursor.now.code.now c.args.cursor.now.free c.args.cursor.now.stage c.args.self.now.tokens.has c.in_ok-keyword.ensures.found (next_code c.peek.result) c.peek.ensures (sym c.if-not-is_name.ensures) (before (c.args.cursor.now.at + 1) c.args.self.now.tokens.has (λ e. true_false (c.if-not-is_name.ensures ∙ ap names (c.peek.ensures ∙ e)))) c.span-name.result.start c.span-name.result.len c.span-name.ensures.spelled c.in_err-keyword-2.ensures.another)
@@ -185,7 +185,7 @@ pub group-returns-clause-no_command : goal.group-returns-clause-no_command
 group-returns-clause-no_command t c = on_err_weaker _ (λ e. group_4 c.args.self.now.tokens.text.now c.args.self.now.tokens.count c.args.cursor.now.at c.args.self.now.left c.args.cursor.now.code.now c.args.cursor.now.free c.args.cursor.now.stage c.args.self.now.tokens.has c.in_ok-keyword.ensures.found c.in_ok-list.ensures.read c.in_ok-keyword-2.ensures.found e) c.redirects.ensures.no_redirects
 
 pub group-returns-clause-read : goal.group-returns-clause-read
-group-returns-clause-read t c = on_ok_weaker _ (λ g. group_got c.args.self.now.tokens.text.now c.args.self.now.tokens.count c.args.cursor.now.at c.args.self.now.left c.args.cursor.now.code.now c.args.cursor.now.free c.args.cursor.now.stage c.args.self.now.tokens.has c.in_ok-keyword.ensures.found c.in_ok-list.ensures.read c.in_ok-keyword-2.ensures.found (omega (arith, c.requires.room.room, c.requires.some)) g) c.redirects.ensures.read
+group-returns-clause-read t c = on_ok_weaker _ (λ g. group_got c.args.self.now.tokens.text.now c.args.self.now.tokens.count c.args.cursor.now.at c.args.self.now.left c.args.cursor.now.code.now c.args.cursor.now.free c.args.cursor.now.stage c.args.self.now.tokens.has c.in_ok-keyword.ensures.found c.in_ok-list.ensures.read c.in_ok-keyword-2.ensures.found (omega (arith, c.requires.room, c.in_ok-keyword.ensures.found.0)) g) c.redirects.ensures.read
 
 pub group-returns-in_err-keyword-2-clause-no_command : goal.group-returns-in_err-keyword-2-clause-no_command
 group-returns-in_err-keyword-2-clause-no_command t c = on_err _ (group_3 c.args.self.now.tokens.text.now c.args.self.now.tokens.count c.args.cursor.now.at c.args.self.now.left c.args.cursor.now.code.now c.args.cursor.now.free c.args.cursor.now.stage c.args.self.now.tokens.has c.in_ok-keyword.ensures.found c.in_ok-list.ensures.read c.in_err-keyword-2.ensures.another)
@@ -200,7 +200,7 @@ pub if_command-returns-clause-no_command : goal.if_command-returns-clause-no_com
 if_command-returns-clause-no_command t c = on_err_weaker _ (λ e. if_6 c.args.self.now.tokens.text.now c.args.self.now.tokens.count c.args.cursor.now.at c.args.self.now.left c.args.cursor.now.code.now c.args.cursor.now.free c.args.cursor.now.stage c.args.self.now.tokens.has c.in_ok-keyword.ensures.found c.in_ok-list.ensures.read c.in_ok-keyword-2.ensures.found c.in_ok-list-2.ensures.read c.in_ok-else_part.ensures.read e) c.redirects.ensures.no_redirects
 
 pub if_command-returns-clause-read : goal.if_command-returns-clause-read
-if_command-returns-clause-read t c = on_ok_weaker _ (λ g. if_got c.args.self.now.tokens.text.now c.args.self.now.tokens.count c.args.cursor.now.at c.args.self.now.left c.args.cursor.now.code.now c.args.cursor.now.free c.args.cursor.now.stage c.args.self.now.tokens.has c.in_ok-keyword.ensures.found c.in_ok-list.ensures.read c.in_ok-keyword-2.ensures.found c.in_ok-list-2.ensures.read c.in_ok-else_part.ensures.read (omega (arith, c.requires.room.room, c.requires.some)) g) c.redirects.ensures.read
+if_command-returns-clause-read t c = on_ok_weaker _ (λ g. if_got c.args.self.now.tokens.text.now c.args.self.now.tokens.count c.args.cursor.now.at c.args.self.now.left c.args.cursor.now.code.now c.args.cursor.now.free c.args.cursor.now.stage c.args.self.now.tokens.has c.in_ok-keyword.ensures.found c.in_ok-list.ensures.read c.in_ok-keyword-2.ensures.found c.in_ok-list-2.ensures.read c.in_ok-else_part.ensures.read (omega (arith, c.requires.room, c.in_ok-keyword.ensures.found.0)) g) c.redirects.ensures.read
 
 pub if_command-returns-in_err-else_part-clause-no_command : goal.if_command-returns-in_err-else_part-clause-no_command
 if_command-returns-in_err-else_part-clause-no_command t c = on_err _ (if_5 c.args.self.now.tokens.text.now c.args.self.now.tokens.count c.args.cursor.now.at c.args.self.now.left c.args.cursor.now.code.now c.args.cursor.now.free c.args.cursor.now.stage c.args.self.now.tokens.has c.in_ok-keyword.ensures.found c.in_ok-list.ensures.read c.in_ok-keyword-2.ensures.found c.in_ok-list-2.ensures.read c.in_err-else_part.ensures.no_else)
@@ -332,7 +332,7 @@ pub subshell-returns-clause-no_command : goal.subshell-returns-clause-no_command
 subshell-returns-clause-no_command t c = on_err_weaker _ (λ e. subshell_4 c.args.self.now.tokens.text.now c.args.self.now.tokens.count c.args.cursor.now.at c.args.self.now.left c.args.cursor.now.code.now c.args.cursor.now.free c.args.cursor.now.stage c.args.self.now.tokens.has c.in_ok-sign.ensures.found c.max-cursor.result c.max-cursor.ensures c.in_ok-list.ensures.read c.in_ok-sign-2.ensures.found e) c.redirects.ensures.no_redirects
 
 pub subshell-returns-clause-read : goal.subshell-returns-clause-read
-subshell-returns-clause-read t c = on_ok_weaker _ (λ g. subshell_got c.args.self.now.tokens.text.now c.args.self.now.tokens.count c.args.cursor.now.at c.args.self.now.left c.args.cursor.now.code.now c.args.cursor.now.free c.args.cursor.now.stage c.args.self.now.tokens.has c.in_ok-sign.ensures.found c.max-cursor.result c.max-cursor.ensures c.in_ok-list.ensures.read c.in_ok-sign-2.ensures.found (omega (arith, c.requires.room.room, c.requires.some)) g) c.redirects.ensures.read
+subshell-returns-clause-read t c = on_ok_weaker _ (λ g. subshell_got c.args.self.now.tokens.text.now c.args.self.now.tokens.count c.args.cursor.now.at c.args.self.now.left c.args.cursor.now.code.now c.args.cursor.now.free c.args.cursor.now.stage c.args.self.now.tokens.has c.in_ok-sign.ensures.found c.max-cursor.result c.max-cursor.ensures c.in_ok-list.ensures.read c.in_ok-sign-2.ensures.found (omega (arith, c.requires.room, c.in_ok-sign.ensures.found.0)) g) c.redirects.ensures.read
 
 pub subshell-returns-in_err-list-clause-no_command : goal.subshell-returns-in_err-list-clause-no_command
 subshell-returns-in_err-list-clause-no_command t c = on_err _ (subshell_2 c.args.self.now.tokens.text.now c.args.self.now.tokens.count c.args.cursor.now.at c.args.self.now.left c.args.cursor.now.code.now c.args.cursor.now.free c.args.cursor.now.stage c.args.self.now.tokens.has c.in_ok-sign.ensures.found c.max-cursor.result c.max-cursor.ensures c.in_err-list.ensures.no_list)
@@ -350,7 +350,7 @@ pub while_loop-returns-clause-no_command : goal.while_loop-returns-clause-no_com
 while_loop-returns-clause-no_command t c = on_err_weaker _ (λ e. while_6 c.args.self.now.tokens.text.now c.args.self.now.tokens.count c.args.cursor.now.at c.args.self.now.left c.args.cursor.now.code.now c.args.cursor.now.free c.args.cursor.now.stage c.args.self.now.tokens.has c.in_ok-keyword.ensures.found c.in_ok-list.ensures.read c.in_ok-keyword-2.ensures.found c.in_ok-list-2.ensures.read c.in_ok-keyword-3.ensures.found e) c.redirects.ensures.no_redirects
 
 pub while_loop-returns-clause-read : goal.while_loop-returns-clause-read
-while_loop-returns-clause-read t c = on_ok_weaker _ (λ g. while_got c.args.self.now.tokens.text.now c.args.self.now.tokens.count c.args.cursor.now.at c.args.self.now.left c.args.cursor.now.code.now c.args.cursor.now.free c.args.cursor.now.stage c.args.self.now.tokens.has c.in_ok-keyword.ensures.found c.in_ok-list.ensures.read c.in_ok-keyword-2.ensures.found c.in_ok-list-2.ensures.read c.in_ok-keyword-3.ensures.found (omega (arith, c.requires.room.room, c.requires.some)) g) c.redirects.ensures.read
+while_loop-returns-clause-read t c = on_ok_weaker _ (λ g. while_got c.args.self.now.tokens.text.now c.args.self.now.tokens.count c.args.cursor.now.at c.args.self.now.left c.args.cursor.now.code.now c.args.cursor.now.free c.args.cursor.now.stage c.args.self.now.tokens.has c.in_ok-keyword.ensures.found c.in_ok-list.ensures.read c.in_ok-keyword-2.ensures.found c.in_ok-list-2.ensures.read c.in_ok-keyword-3.ensures.found (omega (arith, c.requires.room, c.in_ok-keyword.ensures.found.0)) g) c.redirects.ensures.read
 
 pub while_loop-returns-in_err-keyword-2-clause-no_command : goal.while_loop-returns-in_err-keyword-2-clause-no_command
 while_loop-returns-in_err-keyword-2-clause-no_command t c = on_err _ (while_3 c.args.self.now.tokens.text.now c.args.self.now.tokens.count c.args.cursor.now.at c.args.self.now.left c.args.cursor.now.code.now c.args.cursor.now.free c.args.cursor.now.stage c.args.self.now.tokens.has c.in_ok-keyword.ensures.found c.in_ok-list.ensures.read c.in_err-keyword-2.ensures.another)
