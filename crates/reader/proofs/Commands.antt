@@ -1,23 +1,16 @@
 -- Which command it is, by what stands ahead.
 use Rattle.std.proofs.Common.{◌≡◌, ℕ, zero, suc, ◌+◌, ◌-◌, ◌<◌, ◌≤◌, Bool, true, false, ◌&&◌, T, eqb, leb, ◌≢◌, ◌⊎◌, List, [], ◌∷◌, length, get_or, sym, refl, ap, ◌∙◌, subst, inl, inr, arith, eqb→eq, leb→le}
-use mathlib.Core.Option.{none}
 use Rattle.std.proofs.lemmas.List.{drop_all, drop_more}
 use Rattle.grammar.specs.Tokens.{Token, token}
-use Rattle.grammar.specs.Parser.{Parsed, Deeper, Lookahead, la_end, la_odd, la_part, keyword_table, sign_table, lookahead, is_paren, function_at, after_first, parse_command, parse_command_by, parse_function, parse_simple}
-use Rattle.syntax.specs.Tree.{Command}
+use Rattle.grammar.specs.Parser.{Lookahead, la_end, la_odd, la_part, keyword_table, sign_table, lookahead, is_paren, function_at, after_first}
 use Rattle.lexer.specs.Stored.{token_code_of, tokens_of, tokens_from, code_at, Has, sign_code, token_code}
 use Rattle.grammar.proofs.Fit.{by_bool}
 use Rattle.lexer.proofs.Next.{eqb_no, eqb_yes}
 use Rattle.lexer.proofs.Runs.{leb_no, leb_yes}
 use Rattle.syntax.specs.Base.{pick}
-use Rattle.reader.specs.Reading.{GotCommand, joins, bare, lookahead_by, nth_lookahead}
-use Rattle.reader.specs.Aheads.{la_of}
-use Rattle.reader.specs.declared.ahead.Ahead.{Ahead}
-use Rattle.reader.specs.declared.ahead.Ahead.TheVariants.{End, Odd, Part, Keyword, Sign}
-use Rattle.lexer.specs.declared.token.Keyword.TheVariants.{When, If, Then, Elif, Else, Fi, While, Do, Done, For, In, Case, Esac, OpenBrace, CloseBrace, Not}
-use Rattle.lexer.specs.declared.token.Sign.TheVariants.{Semicolon, Newline, Ampersand, Pipe, Redirect, OpenParen, CloseParen, And, Or, DoubleSemicolon}
+use Rattle.reader.specs.Reading.{joins, bare, lookahead_by, nth_lookahead}
 use Rattle.reader.proofs.Basics.{lt_or}
-use Rattle.reader.proofs.Views.{here, there, sign_in, Bare, b_none, b_name, b_key, b_set, bare_in}
+use Rattle.reader.proofs.Views.{here, sign_in, Bare, b_none, b_name, b_key, b_set, bare_in}
 use Rattle.reader.proofs.Toks.{tok_is}
 
 pub after_from : (t : List ℕ) (i : ℕ) → after_first (tokens_from t i) ≡ tokens_from t (i + 1)
@@ -118,53 +111,3 @@ pub function_is : (t : List ℕ) (n i : ℕ) {m : List ℕ} → Has t n m → i 
 function_is t n i h l =
     let p = get_or (tokens_of t) i (token false 0 []) in
     ap function_at (here i h l) ∙ (ap (λ x. x && is_paren (lookahead (tokens_from t (i + 1)))) (kind_0 p.joined p.kind p.bytes) ∙ (ap (λ x. bare (token_code p) && x) (paren_is (tokens_from t (i + 1))) ∙ ap (λ ps. bare (code_at ps) && eqb (code_at (tokens_from t (i + 1))) 40) (sym (here i h l))))
-
--- the command that stands ahead
-pub command_by : (S : Deeper) (ps : List Token) (a b : Ahead) → la_of a ≡ lookahead ps → a ≡ b → parse_command S ps ≡ parse_command_by S (la_of b) ps
-command_by S ps a b e f = ap (λ l. parse_command_by S l ps) (sym e ∙ ap la_of f)
-
-pub command_as : (t : List ℕ) (n i : ℕ) (X Y : Parsed Command) (w0 w : List ℕ) (top j free s0 s : ℕ) → Y ≡ X → GotCommand t n i X w0 w top j free s0 s → GotCommand t n i Y w0 w top j free s0 s
-command_as t n i X Y w0 w top j free s0 s e g = record { tree = g.tree; is = e ∙ g.is; coded = g.coded; staged = g.staged; kept = g.kept; goes = g.goes; within = g.within; above = g.above; fits = g.fits; room = g.room }
-
-pub part_function : (S : Deeper) (ps : List Token) → function_at ps ≡ true → parse_command_by S la_part ps ≡ parse_function S ps
-part_function S ps e = rw e
-
-pub part_simple : (S : Deeper) (ps : List Token) → function_at ps ≡ false → parse_command_by S la_part ps ≡ parse_simple S ps
-part_simple S ps e = rw e
-
-pub ended_none : {t : List ℕ} {n : ℕ} {m : List ℕ} (S : Deeper) (i : ℕ) → Has t n m → n ≤ i → parse_command S (tokens_from t i) ≡ none
-ended_none S i h l = ap (parse_command S) (there i h l)
-
-pub no_command : (S : Deeper) (ps : List Token) (a : Ahead) → la_of a ≡ lookahead ps → (a ≡ Part → ⊥) → (a ≡ Sign OpenParen → ⊥) → (a ≡ Keyword If → ⊥) → (a ≡ Keyword While → ⊥) → (a ≡ Keyword For → ⊥) → (a ≡ Keyword Case → ⊥) → (a ≡ Keyword OpenBrace → ⊥) → parse_command S ps ≡ none
-no_command S ps a e n0 n1 n2 n3 n4 n5 n6 = ap (λ l. parse_command_by S l ps) (sym e) ∙ go a n0 n1 n2 n3 n4 n5 n6
-  where
-    go : (a : Ahead) → (a ≡ Part → ⊥) → (a ≡ Sign OpenParen → ⊥) → (a ≡ Keyword If → ⊥) → (a ≡ Keyword While → ⊥) → (a ≡ Keyword For → ⊥) → (a ≡ Keyword Case → ⊥) → (a ≡ Keyword OpenBrace → ⊥) → parse_command_by S (la_of a) ps ≡ none
-    go End n0 n1 n2 n3 n4 n5 n6 = refl
-    go Odd n0 n1 n2 n3 n4 n5 n6 = refl
-    go Part n0 n1 n2 n3 n4 n5 n6 = absurd (n0 refl)
-    go (Sign Semicolon) n0 n1 n2 n3 n4 n5 n6 = refl
-    go (Sign Newline) n0 n1 n2 n3 n4 n5 n6 = refl
-    go (Sign Ampersand) n0 n1 n2 n3 n4 n5 n6 = refl
-    go (Sign Pipe) n0 n1 n2 n3 n4 n5 n6 = refl
-    go (Sign OpenParen) n0 n1 n2 n3 n4 n5 n6 = absurd (n1 refl)
-    go (Sign CloseParen) n0 n1 n2 n3 n4 n5 n6 = refl
-    go (Sign And) n0 n1 n2 n3 n4 n5 n6 = refl
-    go (Sign Or) n0 n1 n2 n3 n4 n5 n6 = refl
-    go (Sign DoubleSemicolon) n0 n1 n2 n3 n4 n5 n6 = refl
-    go (Sign (Redirect r)) n0 n1 n2 n3 n4 n5 n6 = refl
-    go (Keyword When) n0 n1 n2 n3 n4 n5 n6 = refl
-    go (Keyword If) n0 n1 n2 n3 n4 n5 n6 = absurd (n2 refl)
-    go (Keyword Then) n0 n1 n2 n3 n4 n5 n6 = refl
-    go (Keyword Elif) n0 n1 n2 n3 n4 n5 n6 = refl
-    go (Keyword Else) n0 n1 n2 n3 n4 n5 n6 = refl
-    go (Keyword Fi) n0 n1 n2 n3 n4 n5 n6 = refl
-    go (Keyword While) n0 n1 n2 n3 n4 n5 n6 = absurd (n3 refl)
-    go (Keyword Do) n0 n1 n2 n3 n4 n5 n6 = refl
-    go (Keyword Done) n0 n1 n2 n3 n4 n5 n6 = refl
-    go (Keyword For) n0 n1 n2 n3 n4 n5 n6 = absurd (n4 refl)
-    go (Keyword In) n0 n1 n2 n3 n4 n5 n6 = refl
-    go (Keyword Case) n0 n1 n2 n3 n4 n5 n6 = absurd (n5 refl)
-    go (Keyword Esac) n0 n1 n2 n3 n4 n5 n6 = refl
-    go (Keyword OpenBrace) n0 n1 n2 n3 n4 n5 n6 = absurd (n6 refl)
-    go (Keyword CloseBrace) n0 n1 n2 n3 n4 n5 n6 = refl
-    go (Keyword Not) n0 n1 n2 n3 n4 n5 n6 = refl

@@ -10,7 +10,6 @@ use Rattle.reader.specs.Reading.{GotList, GotElse, Nest}
 use Rattle.reader.proofs.Basics.{max_assoc}
 use Rattle.reader.proofs.Frame.{list_frame}
 use Rattle.reader.proofs.Levels.{lists_are, elses_are}
-use Rattle.reader.proofs.Views.{there}
 use Rattle.reader.proofs.Expects.{got_fi, no_fi, got_else, no_else_key, got_elif, no_elif, got_then, no_then}
 
 module _ (t : List ℕ) (n i d : ℕ) (w : List ℕ) (top link s : ℕ) {m : List ℕ} (hs : Has t n m) (z : 0 < d) (le : top ≤ length w) (lt : link < top) where
@@ -73,6 +72,3 @@ module _ (t : List ℕ) (n i d : ℕ) (w : List ℕ) (top link s : ℕ) {m : Lis
 
                   stages : (s a b c : ℕ) → max (max (max s a) b) c ≡ max s (max (max (max a b) (max c 0)) (max 0 0))
                   stages s a b c = rw (zeros (max (max a b) (max c 0)), no_zero c) (simp max_assoc)
-
-  pub ended_elses : n ≤ i → (level d).elses (tokens_from t i) ≡ none
-  ended_elses l = elses_are d (tokens_from t i) z ∙ rw (there i hs l)

@@ -1,5 +1,5 @@
 -- Words and redirections, as chains.
-use Rattle.std.proofs.Common.{◌≡◌, ℕ, ◌+◌, ◌-◌, ◌<◌, ◌≤◌, Bool, true, false, ◌⊎◌, List, length, set, sym, refl, ap, ◌∙◌, subst, arith, length-set}
+use Rattle.std.proofs.Common.{◌≡◌, ℕ, ◌+◌, ◌-◌, ◌<◌, ◌≤◌, Bool, true, false, ◌⊎◌, List, length, set, sym, refl, ap, ◌∙◌, arith, length-set}
 use mathlib.Core.Option.{some, none}
 use Rattle.std.proofs.lemmas.List.{get_or-set_same, get_or-set_other}
 use Rattle.syntax.specs.Tree.{Words, no_words, and_word, Redirects, no_redirects, redirect}
@@ -8,7 +8,7 @@ use Rattle.code.specs.Layout.{WordsAt, RedirectsAt}
 use Rattle.lexer.specs.Stored.{tokens_from, Has, code_at}
 use Rattle.syntax.specs.Stage.{words_stage, redirects_stage}
 use Rattle.reader.specs.Reading.{ends_words, GotWord, GotWords, GotRedirects}
-use Rattle.reader.proofs.Views.{here, there}
+use Rattle.reader.proofs.Views.{here}
 use Rattle.reader.proofs.Frame.{parts_frame}
 use Rattle.reader.proofs.Signs.{ends_is, arrow_yes, arrow_no, kind_by, kind_back}
 use Rattle.reader.proofs.Chains.{Chain, chain, step, finish, fail}

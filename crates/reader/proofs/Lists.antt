@@ -64,9 +64,6 @@ module _ (d : ℕ) (z : 0 < d) (t : List ℕ) (n i0 : ℕ) (b : Bool) where
 
     module _ (e1 : ends_list (lookahead (tokens_from t i)) ≡ false) where
       module _ (e2 : is_newline (lookahead (tokens_from t i)) ≡ true) where
-        pub list_no_line : (code_at (tokens_from t i) ≡ 33 → ⊥) → (level d).lists b (tokens_from t i0) ≡ none
-        list_no_line x = failing (λ f. rw (e1, e2, no_newline_sign hs i x))
-
         pub list_blank : (i < n) × (code_at (tokens_from t i) ≡ 33) → Chain CommandList list_stage (parse_list_go (level (d - 1)) b) (ListAt t) t n i0 w0 w top link (i + 1) free p s0 s
         list_blank l = skip CommandList list_stage (parse_list_go (level (d - 1)) b) (ListAt t) t n i0 w0 top link s0 h (i + 1) (λ f. rw (e1, e2, got_newline_sign hs i l.0 l.1)) (omega arith) (omega arith)
 

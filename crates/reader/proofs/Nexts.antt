@@ -1,29 +1,26 @@
 -- What the next token says by its code.
-use Rattle.std.proofs.Common.{◌≡◌, ℕ, ◌+◌, ◌-◌, ◌<◌, ◌≤◌, Bool, true, false, ◌≢◌, ◌⊎◌, ◌||◌, nat_eq, [], ◌∷◌, ◌↔◌, IsTrue, List, sym, refl, ap, ◌∙◌, eqb, inl, inr, arith, rules}
-use Rattle.std.specs.declared.option.Option.{Option}
-use Rattle.std.specs.declared.option.Option.TheVariants.{Some, None}
+use Rattle.std.proofs.Common.{◌≡◌, ℕ, ◌+◌, ◌<◌, ◌≤◌, Bool, true, false, ◌≢◌, ◌⊎◌, ◌||◌, nat_eq, [], ◌∷◌, ◌↔◌, IsTrue, List, sym, refl, ap, ◌∙◌, eqb, inl, inr, arith, rules}
 use Rattle.syntax.specs.Base.{pick}
-use Rattle.lexer.specs.declared.token.Token.{Token}
-use Rattle.lexer.specs.declared.token.Token.TheVariants.{Part as part, Keyword as keyword, Name as name, Assignment as assignment, Sign as sign, Unclosed as unclosed}
-use Rattle.lexer.specs.declared.token.Keyword.{Keyword}
 use Rattle.lexer.specs.declared.token.Sign.{Sign}
-use Rattle.lexer.specs.declared.token.Sign.TheVariants.{Redirect}
 use Rattle.lexer.specs.declared.token.RedirectTag.{RedirectTag}
 use Rattle.lexer.specs.declared.token.PartTag.{PartTag}
-use Rattle.lexer.specs.declared.token.PartKind.TheVariants.{Literal, Parameter, Substitution}
-use Rattle.lexer.specs.Codes.{keyword_code, sign_code_of, redirect_code, part_code, is_substitution, code_of, next_code}
+use Rattle.lexer.specs.Codes.{sign_code_of, redirect_code, part_code, is_substitution}
 use Rattle.lexer.specs.Stored.{Has, tokens_from, code_at}
 use Rattle.lexer.proofs.Lexing.{code_out}
-use Rattle.lexer.specs.declared.token.Sign.TheVariants.{Semicolon, Newline, Ampersand, Pipe, OpenParen, CloseParen, And, Or, DoubleSemicolon}
+use Rattle.lexer.specs.declared.token.Sign.TheVariants.{Semicolon, Newline, Ampersand, Pipe, Redirect, OpenParen, CloseParen, And, Or, DoubleSemicolon}
 use Rattle.lexer.specs.declared.token.RedirectTag.TheVariants.{Input, Output, Append, Here}
 use Rattle.std.specs.List.{list_any}
 use Rattle.syntax.specs.Stage.{has_wildcard}
 use Rattle.lexer.proofs.Next.{eqb_no, eqb_yes}
-use Rattle.reader.specs.Aheads.{la_sign_of}
+use Rattle.lexer.specs.declared.token.Keyword.TheVariants.{When, If, Then, Elif, Else, Fi, While, Do, Done, For, In, Case, Esac, OpenBrace, CloseBrace, Not}
+use Rattle.grammar.specs.Parser.{is_newline, is_not}
+use Rattle.reader.specs.declared.ahead.Ahead.{Ahead}
+use Rattle.reader.specs.declared.ahead.Ahead.TheVariants.{End, Odd, Part, Keyword as Kept, Sign as Signed}
+use Rattle.reader.specs.Aheads.{HasCode, la_of, la_sign_of}
 use Rattle.code.specs.Layout.{flag}
 use mir.Val.{bool_byte as from_bool}
 use Rattle.reader.specs.Reading.{lookahead_by, part_tag}
-use Rattle.reader.proofs.Basics.{lt_or, not_true}
+use Rattle.reader.proofs.Basics.{lt_or, not_true, true_false}
 
 -- a token whose code is not that of the end stands among the n
 pub before : {t : List ℕ} {n : ℕ} {m : List ℕ} (i : ℕ) → Has t n m → code_at (tokens_from t i) ≢ 47 → i < n
@@ -86,3 +83,66 @@ swap_or false false false d = refl
 pub wildcard_is : (b : List ℕ) → has_wildcard b ≡ list_any (λ y. nat_eq y 42) b || list_any (λ y. nat_eq y 63) b
 wildcard_is [] = refl
 wildcard_is (c ∷ b) = ap (λ x. (nat_eq c 42 || nat_eq c 63) || x) (wildcard_is b) ∙ swap_or (nat_eq c 42) (nat_eq c 63) (list_any (λ y. nat_eq y 42) b) (list_any (λ y. nat_eq y 63) b)
+
+-- the codes of what stands ahead
+pub newline_code : (a : Ahead) (k : ℕ) → HasCode a k → true ≡ is_newline (la_of a) → k ≡ 33
+newline_code End k h e = true_false e
+newline_code Odd k h e = true_false e
+newline_code Part k h e = true_false e
+newline_code (Kept When) k h e = true_false e
+newline_code (Kept If) k h e = true_false e
+newline_code (Kept Then) k h e = true_false e
+newline_code (Kept Elif) k h e = true_false e
+newline_code (Kept Else) k h e = true_false e
+newline_code (Kept Fi) k h e = true_false e
+newline_code (Kept While) k h e = true_false e
+newline_code (Kept Do) k h e = true_false e
+newline_code (Kept Done) k h e = true_false e
+newline_code (Kept For) k h e = true_false e
+newline_code (Kept In) k h e = true_false e
+newline_code (Kept Case) k h e = true_false e
+newline_code (Kept Esac) k h e = true_false e
+newline_code (Kept OpenBrace) k h e = true_false e
+newline_code (Kept CloseBrace) k h e = true_false e
+newline_code (Kept Not) k h e = true_false e
+newline_code (Signed Semicolon) k h e = true_false e
+newline_code (Signed Newline) k h e = h
+newline_code (Signed Ampersand) k h e = true_false e
+newline_code (Signed Pipe) k h e = true_false e
+newline_code (Signed OpenParen) k h e = true_false e
+newline_code (Signed CloseParen) k h e = true_false e
+newline_code (Signed And) k h e = true_false e
+newline_code (Signed Or) k h e = true_false e
+newline_code (Signed DoubleSemicolon) k h e = true_false e
+newline_code (Signed (Redirect r)) k h e = true_false e
+
+pub not_code : (a : Ahead) (k : ℕ) → HasCode a k → true ≡ is_not (la_of a) → k ≡ 31
+not_code End k h e = true_false e
+not_code Odd k h e = true_false e
+not_code Part k h e = true_false e
+not_code (Kept When) k h e = true_false e
+not_code (Kept If) k h e = true_false e
+not_code (Kept Then) k h e = true_false e
+not_code (Kept Elif) k h e = true_false e
+not_code (Kept Else) k h e = true_false e
+not_code (Kept Fi) k h e = true_false e
+not_code (Kept While) k h e = true_false e
+not_code (Kept Do) k h e = true_false e
+not_code (Kept Done) k h e = true_false e
+not_code (Kept For) k h e = true_false e
+not_code (Kept In) k h e = true_false e
+not_code (Kept Case) k h e = true_false e
+not_code (Kept Esac) k h e = true_false e
+not_code (Kept OpenBrace) k h e = true_false e
+not_code (Kept CloseBrace) k h e = true_false e
+not_code (Kept Not) k h e = h
+not_code (Signed Semicolon) k h e = true_false e
+not_code (Signed Newline) k h e = true_false e
+not_code (Signed Ampersand) k h e = true_false e
+not_code (Signed Pipe) k h e = true_false e
+not_code (Signed OpenParen) k h e = true_false e
+not_code (Signed CloseParen) k h e = true_false e
+not_code (Signed And) k h e = true_false e
+not_code (Signed Or) k h e = true_false e
+not_code (Signed DoubleSemicolon) k h e = true_false e
+not_code (Signed (Redirect r)) k h e = true_false e

@@ -1,5 +1,5 @@
 -- Parts and words.
-use Rattle.std.proofs.Common.{◌≡◌, ℕ, zero, suc, ◌+◌, ◌-◌, ◌*◌, ◌<◌, ◌≤◌, max, Bool, true, false, ◌≢◌, List, [], ◌∷◌, length, get_or, take, drop, set, sym, refl, ap, ◌∙◌, subst, arith, length-set}
+use Rattle.std.proofs.Common.{◌≡◌, ℕ, zero, suc, ◌+◌, ◌-◌, ◌<◌, ◌≤◌, max, Bool, true, false, ◌≢◌, List, [], ◌∷◌, length, get_or, take, drop, set, sym, refl, ap, ◌∙◌, subst, arith, length-set}
 use mathlib.Core.Option.{some, none}
 use Rattle.std.proofs.lemmas.List.{get_or-set_same, get_or-set_other}
 use Rattle.syntax.specs.Base.{on_some}
@@ -12,7 +12,7 @@ use Rattle.lexer.specs.Stored.{Spelled, token_code, tokens_of, tokens_from, Has,
 use Rattle.syntax.specs.Stage.{part_stage, word_stage}
 use Rattle.reader.specs.Reading.{part_tag, tag_stage, joins, GotPart, GotMore, GotWord, GotList}
 use Rattle.reader.proofs.Eats.{eat_sign, eat_no, code_41}
-use Rattle.reader.proofs.Views.{View, v_low, v_run, v_none, view, here, there, glued_is}
+use Rattle.reader.proofs.Views.{View, v_low, v_run, v_none, view, here, glued_is}
 use Rattle.reader.proofs.Frame.{part_frame}
 use Rattle.reader.proofs.Chains.{Chain, chain, step, finish, fail}
 
@@ -61,9 +61,6 @@ part_low t n i d m w top q s0 st s k h sp l z e f g =
     let qk : q ≡ p.kind = e1 ∙ v.0 in
     let stg : st ≡ part_stage x.0 = g ∙ (ap (λ b. tag_stage q b) tb ∙ (ap (λ z. tag_stage z p.bytes) qk ∙ sym x.3)) in
     record { tree = x.0; is = ap (parse_part (level d)) (here i h l) ∙ x.1 (level d) (tokens_from t (i + 1)); coded = (x.2 top (top + 4) _ (get_or-set_other w2 (top + 3) (top + 1) k 0 (omega arith) ∙ (get_or-set_other w1 (top + 2) (top + 1) s 0 (omega arith) ∙ (get_or-set_same w (top + 1) q 0 (omega arith) ∙ qk))) bytes, omega arith); staged = ap (max s0) stg; kept = λ j a b. get_or-set_other w2 (top + 3) j k 0 (omega arith) ∙ (get_or-set_other w1 (top + 2) j s 0 (omega arith) ∙ get_or-set_other w (top + 1) j q 0 (omega arith)); goes = omega arith; within = omega arith; above = omega arith; fits = omega (arith, length-set w2 (top + 3) k, length-set w1 (top + 2) s, length-set w (top + 1) q); room = omega arith }
-
-pub part_ended : {t : List ℕ} {n : ℕ} {m : List ℕ} (S : Deeper) (i : ℕ) → Has t n m → n ≤ i → parse_part S (tokens_from t i) ≡ none
-part_ended S i h l = ap (parse_part S) (there i h l)
 
 run_is : (k : ℕ) (b : List ℕ) → 5 ≤ k → k ≤ 6 → b ≡ [] → (f : Bool) × (k - 1 ≡ 4 + flag f) × ((S : Deeper) (r : List Token) → parse_part_go S k b r ≡ parse_substitution S f [] r)
 run_is (suc (suc (suc (suc (suc zero))))) b x y e = (false, refl, λ S r. rw e)

@@ -10,7 +10,7 @@ use Rattle.code.specs.Layout.{PipelineAt}
 use Rattle.reader.specs.Reading.{GotCommand, GotPipeline, GotNegatable}
 use Rattle.reader.proofs.Frame.{command_frame}
 use Rattle.reader.proofs.Chains.{Chain, chain, step, close, fail}
-use Rattle.reader.proofs.Expects.{got_pipe_sign, no_pipe_sign, got_not, no_not}
+use Rattle.reader.proofs.Expects.{got_pipe_sign, no_pipe_sign, got_not}
 
 pub pipeline_hold : (t : List ℕ) (n i d : ℕ) (m w : List ℕ) (top link s : ℕ) → Has t n m → i ≤ n → top ≤ length w → link < top → Chain Pipeline pipeline_stage (parse_pipeline_go (level d)) (PipelineAt t) t n i w w top link i top link s s
 pipeline_hold t n i d m w top link s h = chain Pipeline pipeline_stage (parse_pipeline_go (level d)) (PipelineAt t) t n i w top link s h.count
@@ -37,9 +37,6 @@ module _ (t : List ℕ) (n i d : ℕ) (w : List ℕ) (top s : ℕ) {m : List ℕ
   plain_got e z y ye {w1} {j} {free} {s1} g = record { tree = (false, g.tree); is = rw (e, g.is); coded = (g.above, g.kept (top + 2) (omega arith) (omega arith) ∙ (get_or-set_same w (top + 2) y 0 (omega arith) ∙ ye), g.coded); staged = g.staged; kept = λ k x u. g.kept k (omega arith) (omega arith) ∙ get_or-set_other w (top + 2) k y 0 (omega arith); goes = g.goes; within = g.within; above = omega (arith, g.above); fits = g.fits; room = omega (arith, g.room) }
 
   module _ (e : is_not (lookahead (tokens_from t i)) ≡ true) where
-    pub not_none : (code_at (tokens_from t i) ≡ 31 → ⊥) → parse_negatable (level d) (tokens_from t i) ≡ none
-    not_none f = rw (e, no_not hs i f)
-
     module _ (l : (i < n) × (code_at (tokens_from t i) ≡ 31)) where
       pub negated_none : parse_pipeline (level d) (tokens_from t (i + 1)) ≡ none → parse_negatable (level d) (tokens_from t i) ≡ none
       negated_none f = rw (e, got_not hs i l.0 l.1, f)

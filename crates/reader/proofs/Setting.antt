@@ -1,7 +1,7 @@
 -- Assignments, as a chain.
-use Rattle.std.proofs.Common.{◌≡◌, ℕ, zero, suc, ◌+◌, ◌-◌, ◌*◌, ◌<◌, ◌≤◌, max, false, List, [], ◌∷◌, ◌++◌, length, get_or, take, drop, set, sym, refl, ap, ◌∙◌, subst, arith, length-set}
+use Rattle.std.proofs.Common.{◌≡◌, ℕ, zero, suc, ◌+◌, ◌-◌, ◌<◌, ◌≤◌, max, false, List, [], ◌∷◌, ◌++◌, length, get_or, take, drop, set, sym, refl, ap, ◌∙◌, subst, arith, length-set}
 use mathlib.Core.Option.{some, none}
-use Rattle.std.proofs.lemmas.List.{get_or-set_same, get_or-set_other, drop_all, drop_more, take-take, take_at, drop_at, drop-take, drop-drop, length-append, length-take, length-drop}
+use Rattle.std.proofs.lemmas.List.{get_or-set_same, get_or-set_other, drop_more, take-take, take_at, drop_at, drop-take, drop-drop, length-append, length-take}
 use Rattle.syntax.specs.Base.{on_some}
 use Rattle.syntax.specs.Tree.{Word, and_part, literal, Assignments, no_assignments, assign}
 use Rattle.grammar.specs.Tokens.{Token, token}
@@ -12,28 +12,12 @@ use Rattle.lexer.specs.Stored.{Spelled, tokens_of, tokens_from, Has, code_at}
 use Rattle.syntax.specs.Stage.{word_stage, assignments_stage, has_wildcard}
 use Rattle.syntax.specs.Base.{pick}
 use Rattle.reader.specs.Reading.{GotMore, GotValue, value_of, GotAssignments}
-use Rattle.reader.proofs.Views.{here, there}
+use Rattle.reader.proofs.Views.{here}
 use Rattle.reader.proofs.Basics.{not_none}
 use Rattle.grammar.proofs.Find.{some_is}
 use Rattle.reader.proofs.Frame.{parts_frame}
 use Rattle.reader.proofs.Sets.{SetAt, none_at, some_at, set_is, bytes1, tag1}
 use Rattle.reader.proofs.Chains.{Chain, chain, step, finish, fail}
-
-pub value_none : (t : List ℕ) (d i s l : ℕ) → parse_more (level d) (tokens_from t i) ≡ none → value_of t d i s l ≡ none
-value_none t d i s l e = rw e
-
-pub value_empty : (t : List ℕ) (n i d s l : ℕ) (w : List ℕ) (top link : ℕ) {w1 : List ℕ} {j free s0 s1 : ℕ} → take l (drop s t) ≡ [] → GotMore t n i d w w1 top link j free s0 s1 → GotValue t n i d s l w w1 top link j free s0 s1
-value_empty t n i d s l w top link e g = record { tree = g.tree; is = rw (g.is, e); coded = g.coded; staged = g.staged; kept = g.kept; goes = g.goes; within = g.within; above = g.above; fits = g.fits; room = omega (arith, g.room) }
-
-pub take_no : (t : List ℕ) (s l : ℕ) → l ≡ 0 → take l (drop s t) ≡ []
-take_no t s l e = rw e
-
-pub take_past : (t : List ℕ) (s l : ℕ) → length t ≤ s → take l (drop s t) ≡ []
-take_past t s l e = rw (drop_all s t e) (nil l)
-  where
-    nil : (l : ℕ) → take {A = ℕ} l [] ≡ []
-    nil zero = refl
-    nil (suc l) = refl
 
 only1_some : (b : List ℕ) (w : Word) → 0 < length b → put_before b w ≡ and_part (literal false b) w
 only1_some [] w h = absurd (omega arith)

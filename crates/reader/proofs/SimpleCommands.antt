@@ -1,5 +1,5 @@
 -- Simple commands.
-use Rattle.std.proofs.Common.{◌≡◌, ℕ, ◌+◌, ◌<◌, ◌≤◌, Bool, true, false, ◌≢◌, List, [], length, get_or, set, sym, refl, ap, ◌∙◌, subst, arith, length-set}
+use Rattle.std.proofs.Common.{◌≡◌, ℕ, ◌+◌, ◌<◌, ◌≤◌, Bool, true, false, ◌≢◌, List, [], length, get_or, set, sym, refl, ap, ◌∙◌, arith, length-set}
 use mathlib.Core.Option.{some, none}
 use Rattle.std.proofs.lemmas.List.{get_or-set_same, get_or-set_other}
 use Rattle.syntax.specs.Tree.{Word, no_words, and_word, Assignments, no_assignments, assign, no_redirects, simple}
@@ -8,7 +8,7 @@ use Rattle.grammar.specs.Parser.{Parsed, level, parse_word, parse_words, parse_r
 use Rattle.code.specs.Layout.{AssignmentsAt}
 use Rattle.lexer.specs.Stored.{tokens_of, tokens_from, Has, code_at}
 use Rattle.reader.specs.Reading.{ends_words, joins, may_be_first, GotAssignments, GotWord, GotWords, GotRedirects, GotCommand}
-use Rattle.reader.proofs.Views.{here, there, glued_is}
+use Rattle.reader.proofs.Views.{here, glued_is}
 use Rattle.reader.proofs.Frame.{parts_frame, assignments_frame, words_frame}
 use Rattle.reader.proofs.Signs.{ends_is}
 use Rattle.reader.proofs.Basics.{max_assoc}
@@ -36,9 +36,6 @@ module _ (t : List ℕ) (n i d : ℕ) (w : List ℕ) (top : ℕ) (z : top + 5 �
       let ab = a.above in
       let ft = a.fits in
       record { tree = simple a.tree no_words no_redirects; is = rw (a.is, nw e) (assignments_some t a.tree (top + 5) fa w1 (top + 2) (tokens_from t ja) a.coded f); coded = ((fa, fa, get_or-set_other v (top + 4) (top + 1) 0 0 (omega arith) ∙ (get_or-set_other w1 (top + 3) (top + 1) 0 0 (omega arith) ∙ (a.kept (top + 1) (omega arith) (omega arith) ∙ get_or-set_same w (top + 1) 0 0 (omega arith))), ab, omega arith, omega arith, assignments_frame t w1 v2 a.tree (top + 5) fa (top + 2) (λ x u y. get_or-set_other v (top + 4) x 0 0 (omega arith) ∙ get_or-set_other w1 (top + 3) x 0 0 (omega arith)) (get_or-set_other v (top + 4) (top + 2) 0 0 (omega arith) ∙ get_or-set_other w1 (top + 3) (top + 2) 0 0 (omega arith)) a.coded, get_or-set_other v (top + 4) (top + 3) 0 0 (omega arith) ∙ get_or-set_same w1 (top + 3) 0 0 (omega arith), get_or-set_same v (top + 4) 0 0 (omega (arith, length-set w1 (top + 3) 0))), omega arith); staged = omega (arith, a.staged); kept = λ x u y. get_or-set_other v (top + 4) x 0 0 (omega arith) ∙ (get_or-set_other w1 (top + 3) x 0 0 (omega arith) ∙ (a.kept x (omega arith) (omega arith) ∙ get_or-set_other w (top + 1) x 0 0 (omega arith))); goes = a.goes; within = a.within; above = omega arith; fits = omega (arith, length-set v (top + 4) 0, length-set w1 (top + 3) 0); room = omega (arith, a.room) }
-
-  pub over_none : false ≡ ends_words k → n ≤ ja → parse_simple (level d) (tokens_from t i) ≡ none
-  over_none e l = absurd (lib.Dec.T_not true (subst (λ b. lib.Dec.T b) (sym (e ∙ ap ends_words (ke ∙ ap code_at (there ja hs l)))) tt) tt)
 
   pub sticky_none : false ≡ ends_words k → true ≡ joins k → parse_simple (level d) (tokens_from t i) ≡ none
   sticky_none e f = rw (a.is, nw e, glued_is (tokens_from t ja) ∙ (ap joins (sym ke) ∙ sym f))

@@ -4,7 +4,7 @@ use mathlib.Core.Option.{Option, some, none}
 use lib.Dec.{nleb→lt}
 use Rattle.syntax.specs.Base.{pick, same, Name, valid_name}
 use Rattle.grammar.specs.Tokens.{Token}
-use Rattle.grammar.specs.Grammar.{keyword, kw_then, kw_elif, kw_else, kw_fi, kw_do, kw_done, kw_in, kw_esac, kw_close, split_equals, Split, reserved}
+use Rattle.grammar.specs.Grammar.{keyword, split_equals, Split, reserved}
 use Rattle.grammar.specs.Parser.{expect, same_token, Lookahead, la_odd, la_part, Entry, look_up, keyword_table, sign_table, lookahead, lookahead_of, next_joined, after_first}
 use Rattle.lexer.specs.Stored.{index_of, keyword_index, bare_code, assignment_code, word_code, sign_code, sign_names, token_code_of, token_code, code_at}
 use Rattle.reader.specs.Reading.{joins, nth_lookahead, lookahead_by}
@@ -151,7 +151,3 @@ eat_key b (p ∷ r) e l = go (key_go p.joined p.kind p.bytes (omega (arith, e)) 
   where
     go : Key p.joined p.kind p.bytes (token_code p) → pick (same_token p (keyword b)) (some r) none ≡ some r
     go (a_key u v z) = rw (u, eqb_yes p.kind 0 v, key_eq p.bytes b (omega (arith, z, e)) l, same_re b)
-
-pub keys_are : (keyword_index kw_then ≡ 2) × (keyword_index kw_elif ≡ 3) × (keyword_index kw_else ≡ 4) × (keyword_index kw_fi ≡ 5) × (keyword_index kw_do ≡ 7) × (keyword_index kw_done ≡ 8) × (keyword_index kw_in ≡ 10) × (keyword_index kw_esac ≡ 12) × (keyword_index kw_close ≡ 14)
-unfolding keyword_index
-keys_are = (refl, refl, refl, refl, refl, refl, refl, refl, refl)

@@ -1,5 +1,5 @@
 -- What the number of a token says of its token.
-use Rattle.std.proofs.Common.{◌≡◌, ℕ, zero, suc, ◌+◌, ◌*◌, ◌<◌, ◌≤◌, Bool, true, false, not, ◌&&◌, T, leb, List, [], ◌∷◌, length, get_or, sym, refl, subst, arith}
+use Rattle.std.proofs.Common.{◌≡◌, ℕ, zero, suc, ◌+◌, ◌<◌, ◌≤◌, Bool, true, false, not, ◌&&◌, T, leb, List, [], ◌∷◌, length, get_or, sym, refl, subst, arith}
 use mathlib.Core.Option.{Option, some, none}
 use Rattle.std.proofs.lemmas.List.{drop_all, drop_more}
 use Rattle.syntax.specs.Base.{pick, same, Name, valid_name}
@@ -136,9 +136,3 @@ here {t} {n} i h l = drop_more (tokens_of t) i (token false 0 []) (omega (arith,
 
 pub there : {t : List ℕ} {n : ℕ} {w : List ℕ} (i : ℕ) → Has t n w → n ≤ i → tokens_from t i ≡ []
 there {t} i h l = drop_all i (tokens_of t) (omega (arith, h.count))
-
-pub kind_in : {t : List ℕ} {n : ℕ} {w : List ℕ} (i : ℕ) → Has t n w → i < n → get_or w (3 * i + 3) 0 ≡ code_at (tokens_from t i)
-kind_in i h l = rw (here i h l) (h.stored i (omega (arith, h.count))).0
-
-pub kind_out : {t : List ℕ} {n : ℕ} {w : List ℕ} (i : ℕ) → Has t n w → n ≤ i → 47 ≡ code_at (tokens_from t i)
-kind_out i h l = rw (there i h l)

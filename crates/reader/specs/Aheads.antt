@@ -1,5 +1,5 @@
 -- What stands ahead, in the parser's terms.
-use Rattle.std.specs.Prelude.{true, false}
+use Rattle.std.specs.Prelude.{◌≡◌, ℕ, true, false, ⊤}
 use Rattle.syntax.specs.Tree.{RedirectKind, input, output, append, here}
 use Rattle.grammar.specs.Parser.{Lookahead, la_end, la_odd, la_part, la_not, la_keyword, la_paren, la_pipe, la_and, la_or, la_newline, la_close_paren, la_double_semicolon, la_opener, la_redirect, la_terminator, open_if, open_while, open_for, open_case, open_brace}
 use Rattle.lexer.specs.declared.token.Keyword.{Keyword as Kept}
@@ -8,6 +8,7 @@ use Rattle.lexer.specs.declared.token.Sign.{Sign as Signed}
 use Rattle.lexer.specs.declared.token.Sign.TheVariants.{Semicolon, Newline, Ampersand, Pipe, Redirect, OpenParen, CloseParen, And, Or, DoubleSemicolon}
 use Rattle.lexer.specs.declared.token.RedirectTag.{RedirectTag}
 use Rattle.lexer.specs.declared.token.RedirectTag.TheVariants.{Input, Output, Append, Here}
+use Rattle.lexer.specs.Codes.{keyword_code, sign_code_of}
 use Rattle.reader.specs.declared.ahead.Ahead.{Ahead}
 use Rattle.reader.specs.declared.ahead.Ahead.TheVariants.{End, Odd, Part, Keyword, Sign}
 
@@ -53,3 +54,11 @@ la_of Odd = la_odd
 la_of Part = la_part
 la_of (Keyword keyword) = la_keyword_of keyword
 la_of (Sign sign) = la_sign_of sign
+
+-- a keyword or a sign that stands ahead has its code
+abbrev pub HasCode : Ahead → ℕ → Type 0
+HasCode End k = ⊤
+HasCode Odd k = ⊤
+HasCode Part k = ⊤
+HasCode (Keyword keyword) k = k ≡ keyword_code keyword
+HasCode (Sign sign) k = k ≡ sign_code_of sign

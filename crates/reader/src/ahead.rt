@@ -1,7 +1,7 @@
 //! What stands ahead, where a command may begin.
 ghost use Rattle.std.specs.Prelude.{◌≡◌};
 ghost use Rattle.grammar.specs.Parser.{ends_list, is_newline, is_not};
-ghost use Rattle.reader.specs.Aheads.{la_of};
+ghost use Rattle.reader.specs.Aheads.{HasCode, la_of};
 ghost use Rattle.reader.specs.Reading.{lookahead_by};
 ghost use Rattle.lexer.specs.Codes.{code_of, next_code};
 
@@ -21,7 +21,8 @@ pub enum Ahead {
 impl Ahead {
     /// What a token is there; whether the next one is joined to it.
     pub fn new(token: Option<Token>, joined: bool) -> Ahead
-        ensures { la_of result ≡ lookahead_by (next_code token) joined }
+        ensures means { la_of result ≡ lookahead_by (next_code token) joined }
+        ensures code { HasCode result (next_code token) }
     {
         match token {
             Some(token) => Ahead::of(token, joined),
@@ -30,7 +31,8 @@ impl Ahead {
     }
 
     fn of(token: Token, joined: bool) -> Ahead
-        ensures { la_of result ≡ lookahead_by (code_of token) joined }
+        ensures means { la_of result ≡ lookahead_by (code_of token) joined }
+        ensures code { HasCode result (code_of token) }
     {
         match token {
             Token::Part { joined: true, .. } | Token::Unclosed => Ahead::Odd,

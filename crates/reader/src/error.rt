@@ -2,6 +2,8 @@
 ghost use Rattle.std.specs.Prelude.{◌≡◌, ◌≤◌, length};
 
 use lexer::Tokens;
+use std::error::Error;
+use std::fmt;
 
 /// What would have been read at the place where reading stopped.
 #[derive(Clone, Copy, Debug, PartialEq, Eq)]
@@ -26,6 +28,31 @@ pub enum Expected {
     ShorterText,
 }
 
+impl fmt::Display for Expected {
+    fn fmt<W: fmt::Write>(&self, f: &mut fmt::Formatter<W>) -> fmt::Result {
+        f.write_str(match self {
+            Expected::Command => "a command",
+            Expected::Word => "a word",
+            Expected::Name => "a name",
+            Expected::Separator => "';' or the end of a line",
+            Expected::Terminator => "';', '&' or the end of a line",
+            Expected::Then => "'then'",
+            Expected::Fi => "'fi'",
+            Expected::Do => "'do'",
+            Expected::Done => "'done'",
+            Expected::In => "'in'",
+            Expected::Esac => "'esac'",
+            Expected::OpenBrace => "'{'",
+            Expected::CloseBrace => "'}'",
+            Expected::CloseParen => "')'",
+            Expected::DoubleSemicolon => "';;'",
+            Expected::End => "the end of the text",
+            Expected::LessDepth => "lists at most 32 deep",
+            Expected::ShorterText => "at most 16384 bytes",
+        })
+    }
+}
+
 /// The token at which reading stopped.
 #[derive(Clone, Copy, Debug, PartialEq, Eq)]
 pub struct Stop {
@@ -39,6 +66,15 @@ pub struct SyntaxError {
     pub at: usize,
     pub expected: Expected,
 }
+
+impl fmt::Display for SyntaxError {
+    fn fmt<W: fmt::Write>(&self, f: &mut fmt::Formatter<W>) -> fmt::Result {
+        let expected = self.expected;
+        write!(f, "expected {expected}")
+    }
+}
+
+impl Error for SyntaxError {}
 
 impl Stop {
     /// The same with its place in the text.

@@ -3,7 +3,7 @@ ghost use Rattle.std.specs.Prelude.{◌≡◌, ◌+◌, ◌<◌, ◌≤◌, ◌�
 ghost use Rattle.grammar.specs.Parser.{lookahead};
 ghost use Rattle.lexer.specs.Codes.{code_of, keyword_code, next_code, sign_code_of};
 ghost use Rattle.lexer.specs.Stored.{code_at, tokens_from};
-ghost use Rattle.reader.specs.Aheads.{la_of};
+ghost use Rattle.reader.specs.Aheads.{HasCode, la_of};
 ghost use Rattle.reader.specs.Reading.{joins};
 
 use crate::ahead::Ahead;
@@ -68,7 +68,8 @@ impl Parser<'_> {
 
     fn look(&self, cursor: &Cursor<'_>) -> Ahead
         requires { cursor.now.at ≤ self.now.tokens.count }
-        ensures { la_of result ≡ lookahead (ahead self.now cursor.now) }
+        ensures means { la_of result ≡ lookahead (ahead self.now cursor.now) }
+        ensures code { HasCode result (code_at (ahead self.now cursor.now)) }
     {
         Ahead::new(self.peek(cursor), self.is_joined(cursor.at + 1))
     }

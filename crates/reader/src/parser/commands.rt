@@ -91,8 +91,7 @@ impl Parser<'_> {
     /// { list }: next, tag, list, redirections.
     #[cycle(parsing)]
     fn group(&self, cursor: &mut Cursor<'_>) -> Result<(), Stop>
-        requires room { Room self.now cursor.old 15 }
-        requires some { cursor.old.at < self.now.tokens.count }
+        requires { Room self.now cursor.old 15 }
         ensures same_words { SameWords cursor.old cursor.new }
         ensures read { OnOk result (ReadCommand (parse_opener (level self.now.left) open_brace (ahead self.now cursor.old)) self.now cursor.old cursor.new) }
         ensures no_command { OnErr result (parse_opener (level self.now.left) open_brace (ahead self.now cursor.old) ≡ none) }
@@ -111,8 +110,7 @@ impl Parser<'_> {
     /// ( list ): next, tag, list, redirections.
     #[cycle(parsing)]
     fn subshell(&self, cursor: &mut Cursor<'_>) -> Result<(), Stop>
-        requires room { Room self.now cursor.old 15 }
-        requires some { cursor.old.at < self.now.tokens.count }
+        requires { Room self.now cursor.old 15 }
         ensures same_words { SameWords cursor.old cursor.new }
         ensures read { OnOk result (ReadCommand (parse_command_by (level self.now.left) la_paren (ahead self.now cursor.old)) self.now cursor.old cursor.new) }
         ensures no_command { OnErr result (parse_command_by (level self.now.left) la_paren (ahead self.now cursor.old) ≡ none) }
@@ -132,8 +130,7 @@ impl Parser<'_> {
     /// while list do list done: next, tag, condition, body, redirections.
     #[cycle(parsing)]
     fn while_loop(&self, cursor: &mut Cursor<'_>) -> Result<(), Stop>
-        requires room { Room self.now cursor.old 15 }
-        requires some { cursor.old.at < self.now.tokens.count }
+        requires { Room self.now cursor.old 15 }
         ensures same_words { SameWords cursor.old cursor.new }
         ensures read { OnOk result (ReadCommand (parse_opener (level self.now.left) open_while (ahead self.now cursor.old)) self.now cursor.old cursor.new) }
         ensures no_command { OnErr result (parse_opener (level self.now.left) open_while (ahead self.now cursor.old) ≡ none) }
@@ -155,8 +152,7 @@ impl Parser<'_> {
     /// if list then list else-part: next, tag, condition, then, else, redirections.
     #[cycle(parsing)]
     fn if_command(&self, cursor: &mut Cursor<'_>) -> Result<(), Stop>
-        requires room { Room self.now cursor.old 15 }
-        requires some { cursor.old.at < self.now.tokens.count }
+        requires { Room self.now cursor.old 15 }
         ensures same_words { SameWords cursor.old cursor.new }
         ensures read { OnOk result (ReadCommand (parse_opener (level self.now.left) open_if (ahead self.now cursor.old)) self.now cursor.old cursor.new) }
         ensures no_command { OnErr result (parse_opener (level self.now.left) open_if (ahead self.now cursor.old) ≡ none) }
@@ -177,8 +173,7 @@ impl Parser<'_> {
     /// case word in arms esac: next, tag, word, arms, redirections.
     #[cycle(parsing)]
     fn case_command(&self, cursor: &mut Cursor<'_>) -> Result<(), Stop>
-        requires room { Room self.now cursor.old 15 }
-        requires some { cursor.old.at < self.now.tokens.count }
+        requires { Room self.now cursor.old 15 }
         ensures same_words { SameWords cursor.old cursor.new }
         ensures read { OnOk result (ReadCommand (parse_opener (level self.now.left) open_case (ahead self.now cursor.old)) self.now cursor.old cursor.new) }
         ensures no_command { OnErr result (parse_opener (level self.now.left) open_case (ahead self.now cursor.old) ≡ none) }
@@ -201,8 +196,7 @@ impl Parser<'_> {
     /// for name in words do list done: next, tag, start and length of the name, words, body, redirections.
     #[cycle(parsing)]
     fn for_loop(&self, cursor: &mut Cursor<'_>) -> Result<(), Stop>
-        requires room { Room self.now cursor.old 15 }
-        requires some { cursor.old.at < self.now.tokens.count }
+        requires { Room self.now cursor.old 15 }
         ensures same_words { SameWords cursor.old cursor.new }
         ensures read { OnOk result (ReadCommand (parse_opener (level self.now.left) open_for (ahead self.now cursor.old)) self.now cursor.old cursor.new) }
         ensures no_command { OnErr result (parse_opener (level self.now.left) open_for (ahead self.now cursor.old) ≡ none) }

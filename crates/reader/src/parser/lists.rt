@@ -12,7 +12,7 @@ use crate::stage;
 use code::CommandTag;
 use lexer::{Keyword, Sign, Token};
 
-/// Whether a token joins two pipelines, and then whether it is && .
+/// Whether a token joins two pipelines, and then whether it is &&.
 fn joint(token: Option<Token>) -> Option<bool>
     ensures { IsJoint (next_code token) result }
 {
@@ -41,11 +41,16 @@ fn end_stage(background: bool) -> u32
     if background { stage::PROCESSES } else { 0 }
 }
 
-/// Writes an else cell at `top`, with a list of one command, an if at `command`, whose links stay open.
-fn nest(code: &mut [u32], top: usize, cell: usize, node: usize, command: usize)
-    requires { (cell ≡ top + 1) × ((node ≡ cell + 3) × ((command ≡ node + 4) × ((command + 6 ≤ length code.old) × (length code.old < 4294967296)))) }
-    ensures { Nest code.old code.new top cell node command }
+/// Writes an else cell at `top`, a list of one command and its pipeline behind it, and behind those the command, an if
+/// whose links stay open.
+fn nest(code: &mut [u32], top: usize)
+    requires fits { top + 14 ≤ length code.old }
+    requires short { length code.old < 4294967296 }
+    ensures { Nest code.old code.new top (top + 1) (top + 1 + 3) (top + 1 + 3 + 4) }
 {
+    let cell = top + 1;
+    let node = cell + 3;
+    let command = node + 4;
     code[top] = cell as u32;
     code[cell] = NIL;
     code[cell + 1] = u32::from(false);
@@ -96,7 +101,6 @@ impl Parser<'_> {
     {
         let top = cursor.free;
         if self.look(cursor).is_not() {
-            self.keyword(cursor, Keyword::Not, Expected::Command)?;
             cursor.code[top + 2] = u32::from(true);
             cursor.at += 1;
             cursor.free += 4;
@@ -156,7 +160,6 @@ impl Parser<'_> {
                 return Ok(());
             }
             if ahead.is_newline() {
-                self.sign(cursor, Sign::Newline, Expected::Command)?;
                 cursor.at += 1;
                 continue 'commands;
             }
@@ -207,10 +210,8 @@ impl Parser<'_> {
             return Ok(());
         }
         self.keyword(cursor, Keyword::Elif, Expected::Fi)?;
-        let cell = top + 1;
-        let node = cell + 3;
-        let command = node + 4;
-        nest(cursor.code, top, cell, node, command);
+        nest(cursor.code, top);
+        let command = top + 1 + 3 + 4;
         cursor.at += 1;
         cursor.free = command + 6;
         let inner = Parser {

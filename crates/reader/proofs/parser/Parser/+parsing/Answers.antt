@@ -8,16 +8,16 @@ use Rattle.lexer.specs.Codes.{next_code, part_code}
 use Rattle.lexer.specs.Stored.{tokens_from, code_at}
 use Rattle.reader.specs.Reading.{names, ends_words, part_tag, may_be_first, joins, tag_stage}
 use Rattle.reader.proofs.Basics.{on_err, not_true, true_false}
-use Rattle.reader.proofs.Nexts.{before, flagged, redirect_range, substitution_code, substitution_number, low_number, low_before}
+use Rattle.reader.proofs.Nexts.{before, flagged, redirect_range, substitution_code, substitution_number, low_number, low_before, newline_code, not_code}
 use Rattle.reader.proofs.AndOrs.{and_or_end, and_or_fail, and_or_step, rebased, negated_kept, joining_at}
 use Rattle.reader.proofs.ArmChains.{arms_hold, arms_blank, arms_end, arms_1, arms_2, arms_3, arms_4, arms_step}
 use Rattle.reader.proofs.Setting.{assignments_hold, assignments_end, assignments_fail, assignments_step, set_bounds, value_part}
 use Rattle.reader.proofs.Compounds.{case_1, case_2, case_3, case_4, case_5, case_6, case_got, for_1, for_2, for_3, for_4, for_5, for_6, for_7, for_8, for_9, for_got, function_1, function_2, function_3, function_4, function_5, function_6, function_got, group_1, group_2, group_3, group_4, group_got, if_1, if_2, if_3, if_4, if_5, if_6, if_got, subshell_1, subshell_2, subshell_3, subshell_4, subshell_got, while_1, while_2, while_3, while_4, while_5, while_6, while_got}
 use Rattle.reader.proofs.Elses.{fi_got, else_none, else_open, else_got, elif_no, elif_1, elif_2, elif_3, elif_4, elif_got}
 use Rattle.reader.proofs.Levels.{no_elses, no_lists}
-use Rattle.reader.proofs.Lists.{list_hold, list_close, list_no_line, list_blank, list_1, list_next, list_open, list_last, inside}
+use Rattle.reader.proofs.Lists.{list_hold, list_close, list_blank, list_1, list_next, list_open, list_last, inside}
 use Rattle.reader.proofs.Parts.{more_holds, more_ends, more_fails, more_steps, part_none, part_low, run_none, run_open, run_got, word_sticky, word_no_part, word_none, word_got}
-use Rattle.reader.proofs.Pipelines.{plain_none, plain_got, not_none, negated_none, negated_got, pipeline_hold, pipeline_fail, pipeline_end, pipeline_step}
+use Rattle.reader.proofs.Pipelines.{plain_none, plain_got, negated_none, negated_got, pipeline_hold, pipeline_fail, pipeline_end, pipeline_step}
 use Rattle.reader.proofs.Lines.{redirects_hold, redirects_end, redirects_fail, redirects_step, words_hold, words_end, words_fail, words_step}
 use Rattle.reader.proofs.SimpleCommands.{empty_none, alone_got, sticky_none, not_first, word_out, words_out, redirects_out, simple_got}
 use Rattle.reader.proofs.parser.Parser.+parsing.Goals as goal
@@ -80,7 +80,7 @@ pub case_command-returns-clause-no_command : goal.case_command-returns-clause-no
 case_command-returns-clause-no_command t c = on_err_weaker _ (λ e. case_6 c.args.self.now.tokens.text.now c.args.self.now.tokens.count c.args.cursor.now.at c.args.self.now.left c.args.cursor.now.code.now c.args.cursor.now.free c.args.cursor.now.stage c.args.self.now.tokens.has c.in_ok-keyword.ensures.found c.max-cursor.result c.max-cursor.ensures c.in_ok-word.ensures.read c.in_ok-keyword-2.ensures.found c.in_ok-arms.ensures.read c.in_ok-keyword-3.ensures.found e) c.redirects.ensures.no_redirects
 
 pub case_command-returns-clause-read : goal.case_command-returns-clause-read
-case_command-returns-clause-read t c = on_ok_weaker _ (λ g. case_got c.args.self.now.tokens.text.now c.args.self.now.tokens.count c.args.cursor.now.at c.args.self.now.left c.args.cursor.now.code.now c.args.cursor.now.free c.args.cursor.now.stage c.args.self.now.tokens.has c.in_ok-keyword.ensures.found c.max-cursor.result c.max-cursor.ensures c.in_ok-word.ensures.read c.in_ok-keyword-2.ensures.found c.in_ok-arms.ensures.read c.in_ok-keyword-3.ensures.found (omega (arith, c.requires.room.room, c.requires.some)) g) c.redirects.ensures.read
+case_command-returns-clause-read t c = on_ok_weaker _ (λ g. case_got c.args.self.now.tokens.text.now c.args.self.now.tokens.count c.args.cursor.now.at c.args.self.now.left c.args.cursor.now.code.now c.args.cursor.now.free c.args.cursor.now.stage c.args.self.now.tokens.has c.in_ok-keyword.ensures.found c.max-cursor.result c.max-cursor.ensures c.in_ok-word.ensures.read c.in_ok-keyword-2.ensures.found c.in_ok-arms.ensures.read c.in_ok-keyword-3.ensures.found (omega (arith, c.requires.room, c.in_ok-keyword.ensures.found.0)) g) c.redirects.ensures.read
 
 pub case_command-returns-in_err-arms-clause-no_command : goal.case_command-returns-in_err-arms-clause-no_command
 case_command-returns-in_err-arms-clause-no_command t c = on_err _ (case_4 c.args.self.now.tokens.text.now c.args.self.now.tokens.count c.args.cursor.now.at c.args.self.now.left c.args.cursor.now.code.now c.args.cursor.now.free c.args.cursor.now.stage c.args.self.now.tokens.has c.in_ok-keyword.ensures.found c.max-cursor.result c.max-cursor.ensures c.in_ok-word.ensures.read c.in_ok-keyword-2.ensures.found c.in_err-arms.ensures.no_arms)
@@ -134,7 +134,7 @@ pub for_loop-returns-clause-no_command : goal.for_loop-returns-clause-no_command
 for_loop-returns-clause-no_command t c = on_err_weaker _ (λ e. for_9 c.args.self.now.tokens.text.now c.args.self.now.tokens.count c.args.cursor.now.at c.args.self.now.left c.args.cursor.now.code.now c.args.cursor.now.free c.args.cursor.now.stage c.args.self.now.tokens.has c.in_ok-keyword.ensures.found (next_code c.peek.result) c.peek.ensures (sym c.if-not-is_name.ensures) (before (c.args.cursor.now.at + 1) c.args.self.now.tokens.has (λ e. true_false (c.if-not-is_name.ensures ∙ ap names (c.peek.ensures ∙ e)))) c.span-name.result.start c.span-name.result.len c.span-name.ensures.spelled c.in_ok-keyword-2.ensures.found c.max-cursor.result c.max-cursor.ensures c.in_ok-words.ensures.read c.in_ok-separator.ensures.found c.in_ok-keyword-3.ensures.found c.in_ok-list.ensures.read c.in_ok-keyword-4.ensures.found e) c.redirects.ensures.no_redirects
 
 pub for_loop-returns-clause-read : goal.for_loop-returns-clause-read
-for_loop-returns-clause-read t c = on_ok_weaker _ (λ g. for_got c.args.self.now.tokens.text.now c.args.self.now.tokens.count c.args.cursor.now.at c.args.self.now.left c.args.cursor.now.code.now c.args.cursor.now.free c.args.cursor.now.stage c.args.self.now.tokens.has c.in_ok-keyword.ensures.found (next_code c.peek.result) c.peek.ensures (sym c.if-not-is_name.ensures) (before (c.args.cursor.now.at + 1) c.args.self.now.tokens.has (λ e. true_false (c.if-not-is_name.ensures ∙ ap names (c.peek.ensures ∙ e)))) c.span-name.result.start c.span-name.result.len c.span-name.ensures.spelled c.in_ok-keyword-2.ensures.found c.max-cursor.result c.max-cursor.ensures c.in_ok-words.ensures.read c.in_ok-separator.ensures.found c.in_ok-keyword-3.ensures.found c.in_ok-list.ensures.read c.in_ok-keyword-4.ensures.found (omega (arith, c.requires.room.room, c.requires.some)) g) c.redirects.ensures.read
+for_loop-returns-clause-read t c = on_ok_weaker _ (λ g. for_got c.args.self.now.tokens.text.now c.args.self.now.tokens.count c.args.cursor.now.at c.args.self.now.left c.args.cursor.now.code.now c.args.cursor.now.free c.args.cursor.now.stage c.args.self.now.tokens.has c.in_ok-keyword.ensures.found (next_code c.peek.result) c.peek.ensures (sym c.if-not-is_name.ensures) (before (c.args.cursor.now.at + 1) c.args.self.now.tokens.has (λ e. true_false (c.if-not-is_name.ensures ∙ ap names (c.peek.ensures ∙ e)))) c.span-name.result.start c.span-name.result.len c.span-name.ensures.spelled c.in_ok-keyword-2.ensures.found c.max-cursor.result c.max-cursor.ensures c.in_ok-words.ensures.read c.in_ok-separator.ensures.found c.in_ok-keyword-3.ensures.found c.in_ok-list.ensures.read c.in_ok-keyword-4.ensures.found (omega (arith, c.requires.room, c.in_ok-keyword.ensures.found.0)) g) c.redirects.ensures.read
 
 pub for_loop-returns-in_err-keyword-2-clause-no_command : goal.for_loop-returns-in_err-keyword-2-clause-no_command
 for_loop-returns-in_err-keyword-2-clause-no_command t c = on_err _ (for_3 c.args.self.now.tokens.text.now c.args.self.now.tokens.count c.args.cursor.now.at c.args.self.now.left c.args.cursor.now.code.now c.args.cursor.now.free c.args.cursor.now.stage c.args.self.now.tokens.has c.in_ok-keyword.ensures.found (next_code c.peek.result) c.peek.ensures (sym c.if-not-is_name.ensures) (before (c.args.cursor.now.at + 1) c.args.self.now.tokens.has (λ e. true_false (c.if-not-is_name.ensures ∙ ap names (c.peek.ensures ∙ e)))) c.span-name.result.start c.span-name.result.len c.span-name.ensures.spelled c.in_err-keyword-2.ensures.another)
@@ -185,7 +185,7 @@ pub group-returns-clause-no_command : goal.group-returns-clause-no_command
 group-returns-clause-no_command t c = on_err_weaker _ (λ e. group_4 c.args.self.now.tokens.text.now c.args.self.now.tokens.count c.args.cursor.now.at c.args.self.now.left c.args.cursor.now.code.now c.args.cursor.now.free c.args.cursor.now.stage c.args.self.now.tokens.has c.in_ok-keyword.ensures.found c.in_ok-list.ensures.read c.in_ok-keyword-2.ensures.found e) c.redirects.ensures.no_redirects
 
 pub group-returns-clause-read : goal.group-returns-clause-read
-group-returns-clause-read t c = on_ok_weaker _ (λ g. group_got c.args.self.now.tokens.text.now c.args.self.now.tokens.count c.args.cursor.now.at c.args.self.now.left c.args.cursor.now.code.now c.args.cursor.now.free c.args.cursor.now.stage c.args.self.now.tokens.has c.in_ok-keyword.ensures.found c.in_ok-list.ensures.read c.in_ok-keyword-2.ensures.found (omega (arith, c.requires.room.room, c.requires.some)) g) c.redirects.ensures.read
+group-returns-clause-read t c = on_ok_weaker _ (λ g. group_got c.args.self.now.tokens.text.now c.args.self.now.tokens.count c.args.cursor.now.at c.args.self.now.left c.args.cursor.now.code.now c.args.cursor.now.free c.args.cursor.now.stage c.args.self.now.tokens.has c.in_ok-keyword.ensures.found c.in_ok-list.ensures.read c.in_ok-keyword-2.ensures.found (omega (arith, c.requires.room, c.in_ok-keyword.ensures.found.0)) g) c.redirects.ensures.read
 
 pub group-returns-in_err-keyword-2-clause-no_command : goal.group-returns-in_err-keyword-2-clause-no_command
 group-returns-in_err-keyword-2-clause-no_command t c = on_err _ (group_3 c.args.self.now.tokens.text.now c.args.self.now.tokens.count c.args.cursor.now.at c.args.self.now.left c.args.cursor.now.code.now c.args.cursor.now.free c.args.cursor.now.stage c.args.self.now.tokens.has c.in_ok-keyword.ensures.found c.in_ok-list.ensures.read c.in_err-keyword-2.ensures.another)
@@ -200,7 +200,7 @@ pub if_command-returns-clause-no_command : goal.if_command-returns-clause-no_com
 if_command-returns-clause-no_command t c = on_err_weaker _ (λ e. if_6 c.args.self.now.tokens.text.now c.args.self.now.tokens.count c.args.cursor.now.at c.args.self.now.left c.args.cursor.now.code.now c.args.cursor.now.free c.args.cursor.now.stage c.args.self.now.tokens.has c.in_ok-keyword.ensures.found c.in_ok-list.ensures.read c.in_ok-keyword-2.ensures.found c.in_ok-list-2.ensures.read c.in_ok-else_part.ensures.read e) c.redirects.ensures.no_redirects
 
 pub if_command-returns-clause-read : goal.if_command-returns-clause-read
-if_command-returns-clause-read t c = on_ok_weaker _ (λ g. if_got c.args.self.now.tokens.text.now c.args.self.now.tokens.count c.args.cursor.now.at c.args.self.now.left c.args.cursor.now.code.now c.args.cursor.now.free c.args.cursor.now.stage c.args.self.now.tokens.has c.in_ok-keyword.ensures.found c.in_ok-list.ensures.read c.in_ok-keyword-2.ensures.found c.in_ok-list-2.ensures.read c.in_ok-else_part.ensures.read (omega (arith, c.requires.room.room, c.requires.some)) g) c.redirects.ensures.read
+if_command-returns-clause-read t c = on_ok_weaker _ (λ g. if_got c.args.self.now.tokens.text.now c.args.self.now.tokens.count c.args.cursor.now.at c.args.self.now.left c.args.cursor.now.code.now c.args.cursor.now.free c.args.cursor.now.stage c.args.self.now.tokens.has c.in_ok-keyword.ensures.found c.in_ok-list.ensures.read c.in_ok-keyword-2.ensures.found c.in_ok-list-2.ensures.read c.in_ok-else_part.ensures.read (omega (arith, c.requires.room, c.in_ok-keyword.ensures.found.0)) g) c.redirects.ensures.read
 
 pub if_command-returns-in_err-else_part-clause-no_command : goal.if_command-returns-in_err-else_part-clause-no_command
 if_command-returns-in_err-else_part-clause-no_command t c = on_err _ (if_5 c.args.self.now.tokens.text.now c.args.self.now.tokens.count c.args.cursor.now.at c.args.self.now.left c.args.cursor.now.code.now c.args.cursor.now.free c.args.cursor.now.stage c.args.self.now.tokens.has c.in_ok-keyword.ensures.found c.in_ok-list.ensures.read c.in_ok-keyword-2.ensures.found c.in_ok-list-2.ensures.read c.in_err-else_part.ensures.no_else)
@@ -221,25 +221,22 @@ pub list-commands-init : goal.list-commands-init
 list-commands-init t c = ((search rules, omega (arith, length-set {A = ℕ})), list_hold c.args.self.now.tokens.text.now c.args.self.now.tokens.count c.args.cursor.now.at (c.args.self.now.left - 1) c.args.last c.args.self.now.tokens.words.now c.args.cursor.now.code.now c.args.cursor.now.free c.args.link c.args.cursor.now.stage c.args.self.now.tokens.has (omega arith) (omega arith) (omega arith))
 
 pub list-commands-preserved : goal.list-commands-preserved
-list-commands-preserved t c = ((search rules, omega (arith, length-set {A = ℕ})), list_next c.args.self.now.left (omega arith) c.args.self.now.tokens.text.now c.args.self.now.tokens.count c.args.cursor.now.at c.args.last c.args.self.now.tokens.has c.commands.invariant.1 (ap ends_list (sym c.look-ahead.ensures) ∙ sym c.if-ends_list.ensures) (ap is_newline (sym c.look-ahead.ensures) ∙ sym c.if-is_newline.ensures) c.in_ok-and_or.ensures.read (next_code c.peek.result) c.peek.ensures c.from-in-commands.result (flagged c.in-Some.background _ c.from-in-commands.ensures ∙ ap flag c.in-Some.ensures.0) c.max-cursor.result (c.max-cursor.ensures ∙ ap (max c.and_or.new.cursor.stage) (c.end_stage.ensures ∙ ap (λ x. pick x 5 0) c.in-Some.ensures.0)) c.in-Some.ensures.1 (before c.and_or.new.cursor.at c.args.self.now.tokens.has (omega (arith, c.peek.ensures, (inside (next_code c.peek.result) c.in-Some.ensures.1).1))))
+list-commands-preserved t c = ((search rules, omega (arith, length-set {A = ℕ})), list_next c.args.self.now.left (omega arith) c.args.self.now.tokens.text.now c.args.self.now.tokens.count c.args.cursor.now.at c.args.last c.args.self.now.tokens.has c.commands.invariant.1 (ap ends_list (sym c.look-ahead.ensures.means) ∙ sym c.if-ends_list.ensures) (ap is_newline (sym c.look-ahead.ensures.means) ∙ sym c.if-is_newline.ensures) c.in_ok-and_or.ensures.read (next_code c.peek.result) c.peek.ensures c.from-in-commands.result (flagged c.in-Some.background _ c.from-in-commands.ensures ∙ ap flag c.in-Some.ensures.0) c.max-cursor.result (c.max-cursor.ensures ∙ ap (max c.and_or.new.cursor.stage) (c.end_stage.ensures ∙ ap (λ x. pick x 5 0) c.in-Some.ensures.0)) c.in-Some.ensures.1 (before c.and_or.new.cursor.at c.args.self.now.tokens.has (omega (arith, c.peek.ensures, (inside (next_code c.peek.result) c.in-Some.ensures.1).1))))
 
 pub list-commands-preserved-then-is_newline : goal.list-commands-preserved-then-is_newline
-list-commands-preserved-then-is_newline t c = ((search rules, omega (arith, length-set {A = ℕ})), list_blank c.args.self.now.left (omega arith) c.args.self.now.tokens.text.now c.args.self.now.tokens.count c.args.cursor.now.at c.args.last c.args.self.now.tokens.has c.commands.invariant.1 (ap ends_list (sym c.look-ahead.ensures) ∙ sym c.if-ends_list.ensures) (ap is_newline (sym c.look-ahead.ensures) ∙ sym c.if-is_newline.ensures) c.in_ok-sign.ensures.found)
+list-commands-preserved-then-is_newline t c = ((search rules, omega (arith, length-set {A = ℕ})), list_blank c.args.self.now.left (omega arith) c.args.self.now.tokens.text.now c.args.self.now.tokens.count c.args.cursor.now.at c.args.last c.args.self.now.tokens.has c.commands.invariant.1 (ap ends_list (sym c.look-ahead.ensures.means) ∙ sym c.if-ends_list.ensures) (ap is_newline (sym c.look-ahead.ensures.means) ∙ sym c.if-is_newline.ensures) (before c.commands.cursor.at c.args.self.now.tokens.has (omega (arith, newline_code c.look-ahead.result _ c.look-ahead.ensures.code c.if-is_newline.ensures)), newline_code c.look-ahead.result _ c.look-ahead.ensures.code c.if-is_newline.ensures))
 
 pub list-returns-in_default-clause-read : goal.list-returns-in_default-clause-read
-list-returns-in_default-clause-read t c = list_last c.args.self.now.left (omega arith) c.args.self.now.tokens.text.now c.args.self.now.tokens.count c.args.cursor.now.at c.args.last c.args.self.now.tokens.has c.commands.invariant.1 (ap ends_list (sym c.look-ahead.ensures) ∙ sym c.if-ends_list.ensures) (ap is_newline (sym c.look-ahead.ensures) ∙ sym c.if-is_newline.ensures) c.in_ok-and_or.ensures.read (next_code c.peek.result) c.peek.ensures c.in_default.ensures c.if-not-last.false c.from.result c.from.ensures
+list-returns-in_default-clause-read t c = list_last c.args.self.now.left (omega arith) c.args.self.now.tokens.text.now c.args.self.now.tokens.count c.args.cursor.now.at c.args.last c.args.self.now.tokens.has c.commands.invariant.1 (ap ends_list (sym c.look-ahead.ensures.means) ∙ sym c.if-ends_list.ensures) (ap is_newline (sym c.look-ahead.ensures.means) ∙ sym c.if-is_newline.ensures) c.in_ok-and_or.ensures.read (next_code c.peek.result) c.peek.ensures c.in_default.ensures c.if-not-last.false c.from.result c.from.ensures
 
 pub list-returns-in_err-and_or-clause-no_list : goal.list-returns-in_err-and_or-clause-no_list
-list-returns-in_err-and_or-clause-no_list t c = on_err _ (list_1 c.args.self.now.left (omega arith) c.args.self.now.tokens.text.now c.args.self.now.tokens.count c.args.cursor.now.at c.args.last c.args.self.now.tokens.has c.commands.invariant.1 (ap ends_list (sym c.look-ahead.ensures) ∙ sym c.if-ends_list.ensures) (ap is_newline (sym c.look-ahead.ensures) ∙ sym c.if-is_newline.ensures) c.in_err-and_or.ensures.no_pipelines)
-
-pub list-returns-in_err-sign-clause-no_list : goal.list-returns-in_err-sign-clause-no_list
-list-returns-in_err-sign-clause-no_list t c = on_err _ (list_no_line c.args.self.now.left (omega arith) c.args.self.now.tokens.text.now c.args.self.now.tokens.count c.args.cursor.now.at c.args.last c.args.self.now.tokens.has c.commands.invariant.1 (ap ends_list (sym c.look-ahead.ensures) ∙ sym c.if-ends_list.ensures) (ap is_newline (sym c.look-ahead.ensures) ∙ sym c.if-is_newline.ensures) c.in_err-sign.ensures.another)
+list-returns-in_err-and_or-clause-no_list t c = on_err _ (list_1 c.args.self.now.left (omega arith) c.args.self.now.tokens.text.now c.args.self.now.tokens.count c.args.cursor.now.at c.args.last c.args.self.now.tokens.has c.commands.invariant.1 (ap ends_list (sym c.look-ahead.ensures.means) ∙ sym c.if-ends_list.ensures) (ap is_newline (sym c.look-ahead.ensures.means) ∙ sym c.if-is_newline.ensures) c.in_err-and_or.ensures.no_pipelines)
 
 pub list-returns-then-ends_list-clause-read : goal.list-returns-then-ends_list-clause-read
-list-returns-then-ends_list-clause-read t c = list_close c.args.self.now.left (omega arith) c.args.self.now.tokens.text.now c.args.self.now.tokens.count c.args.cursor.now.at c.args.last c.args.self.now.tokens.has c.commands.invariant.1 (ap ends_list (sym c.look-ahead.ensures) ∙ sym c.if-ends_list.ensures)
+list-returns-then-ends_list-clause-read t c = list_close c.args.self.now.left (omega arith) c.args.self.now.tokens.text.now c.args.self.now.tokens.count c.args.cursor.now.at c.args.last c.args.self.now.tokens.has c.commands.invariant.1 (ap ends_list (sym c.look-ahead.ensures.means) ∙ sym c.if-ends_list.ensures)
 
 pub list-returns-then-not-last-clause-no_list : goal.list-returns-then-not-last-clause-no_list
-list-returns-then-not-last-clause-no_list t c = list_open c.args.self.now.left (omega arith) c.args.self.now.tokens.text.now c.args.self.now.tokens.count c.args.cursor.now.at c.args.last c.args.self.now.tokens.has c.commands.invariant.1 (ap ends_list (sym c.look-ahead.ensures) ∙ sym c.if-ends_list.ensures) (ap is_newline (sym c.look-ahead.ensures) ∙ sym c.if-is_newline.ensures) c.in_ok-and_or.ensures.read (next_code c.peek.result) c.peek.ensures c.in_default.ensures c.if-not-last.true
+list-returns-then-not-last-clause-no_list t c = list_open c.args.self.now.left (omega arith) c.args.self.now.tokens.text.now c.args.self.now.tokens.count c.args.cursor.now.at c.args.last c.args.self.now.tokens.has c.commands.invariant.1 (ap ends_list (sym c.look-ahead.ensures.means) ∙ sym c.if-ends_list.ensures) (ap is_newline (sym c.look-ahead.ensures.means) ∙ sym c.if-is_newline.ensures) c.in_ok-and_or.ensures.read (next_code c.peek.result) c.peek.ensures c.in_default.ensures c.if-not-last.true
 
 pub list-returns-then-self-eq0-clause-no_list : goal.list-returns-then-self-eq0-clause-no_list
 list-returns-then-self-eq0-clause-no_list t c = no_lists c.args.self.now.left c.args.last (tokens_from c.args.self.now.tokens.text.now c.args.cursor.now.at) (omega arith)
@@ -257,19 +254,16 @@ pub more-returns-in_err-part-clause-no_word : goal.more-returns-in_err-part-clau
 more-returns-in_err-part-clause-no_word t c = on_err _ (more_fails c.args.self.now.left c.parts.invariant.1 (code_at (tokens_from c.args.self.now.tokens.text.now c.parts.cursor.at)) refl c.parts-test.ensures c.in_err-part.ensures.no_part)
 
 pub negatable-returns-clause-no_pipeline : goal.negatable-returns-clause-no_pipeline
-negatable-returns-clause-no_pipeline t c = on_err_weaker _ (λ e. plain_none c.args.self.now.tokens.text.now c.args.self.now.tokens.count c.args.cursor.now.at c.args.self.now.left c.args.cursor.now.code.now c.args.cursor.now.free c.args.cursor.now.stage c.args.self.now.tokens.has (ap is_not (sym c.look.ensures) ∙ sym c.if-is_not.ensures) e) c.pipeline-2.ensures.no_pipeline
+negatable-returns-clause-no_pipeline t c = on_err_weaker _ (λ e. plain_none c.args.self.now.tokens.text.now c.args.self.now.tokens.count c.args.cursor.now.at c.args.self.now.left c.args.cursor.now.code.now c.args.cursor.now.free c.args.cursor.now.stage c.args.self.now.tokens.has (ap is_not (sym c.look.ensures.means) ∙ sym c.if-is_not.ensures) e) c.pipeline-2.ensures.no_pipeline
 
 pub negatable-returns-clause-read : goal.negatable-returns-clause-read
-negatable-returns-clause-read t c = on_ok_weaker _ (λ g. plain_got c.args.self.now.tokens.text.now c.args.self.now.tokens.count c.args.cursor.now.at c.args.self.now.left c.args.cursor.now.code.now c.args.cursor.now.free c.args.cursor.now.stage c.args.self.now.tokens.has (ap is_not (sym c.look.ensures) ∙ sym c.if-is_not.ensures) (omega arith) c.from-2.result c.from-2.ensures g) c.pipeline-2.ensures.read
-
-pub negatable-returns-in_err-keyword-clause-no_pipeline : goal.negatable-returns-in_err-keyword-clause-no_pipeline
-negatable-returns-in_err-keyword-clause-no_pipeline t c = on_err _ (not_none c.args.self.now.tokens.text.now c.args.self.now.tokens.count c.args.cursor.now.at c.args.self.now.left c.args.cursor.now.code.now c.args.cursor.now.free c.args.cursor.now.stage c.args.self.now.tokens.has (ap is_not (sym c.look.ensures) ∙ sym c.if-is_not.ensures) c.in_err-keyword.ensures.another)
+negatable-returns-clause-read t c = on_ok_weaker _ (λ g. plain_got c.args.self.now.tokens.text.now c.args.self.now.tokens.count c.args.cursor.now.at c.args.self.now.left c.args.cursor.now.code.now c.args.cursor.now.free c.args.cursor.now.stage c.args.self.now.tokens.has (ap is_not (sym c.look.ensures.means) ∙ sym c.if-is_not.ensures) (omega arith) c.from-2.result c.from-2.ensures g) c.pipeline-2.ensures.read
 
 pub negatable-returns-then-is_not-clause-no_pipeline : goal.negatable-returns-then-is_not-clause-no_pipeline
-negatable-returns-then-is_not-clause-no_pipeline t c = on_err_weaker _ (λ e. negated_none c.args.self.now.tokens.text.now c.args.self.now.tokens.count c.args.cursor.now.at c.args.self.now.left c.args.cursor.now.code.now c.args.cursor.now.free c.args.cursor.now.stage c.args.self.now.tokens.has (ap is_not (sym c.look.ensures) ∙ sym c.if-is_not.ensures) c.in_ok-keyword.ensures.found e) c.pipeline.ensures.no_pipeline
+negatable-returns-then-is_not-clause-no_pipeline t c = on_err_weaker _ (λ e. negated_none c.args.self.now.tokens.text.now c.args.self.now.tokens.count c.args.cursor.now.at c.args.self.now.left c.args.cursor.now.code.now c.args.cursor.now.free c.args.cursor.now.stage c.args.self.now.tokens.has (ap is_not (sym c.look.ensures.means) ∙ sym c.if-is_not.ensures) (before c.args.cursor.now.at c.args.self.now.tokens.has (omega (arith, not_code c.look.result _ c.look.ensures.code c.if-is_not.ensures)), not_code c.look.result _ c.look.ensures.code c.if-is_not.ensures) e) c.pipeline.ensures.no_pipeline
 
 pub negatable-returns-then-is_not-clause-read : goal.negatable-returns-then-is_not-clause-read
-negatable-returns-then-is_not-clause-read t c = on_ok_weaker _ (λ g. negated_got c.args.self.now.tokens.text.now c.args.self.now.tokens.count c.args.cursor.now.at c.args.self.now.left c.args.cursor.now.code.now c.args.cursor.now.free c.args.cursor.now.stage c.args.self.now.tokens.has (ap is_not (sym c.look.ensures) ∙ sym c.if-is_not.ensures) c.in_ok-keyword.ensures.found (omega arith) c.from.result c.from.ensures g) c.pipeline.ensures.read
+negatable-returns-then-is_not-clause-read t c = on_ok_weaker _ (λ g. negated_got c.args.self.now.tokens.text.now c.args.self.now.tokens.count c.args.cursor.now.at c.args.self.now.left c.args.cursor.now.code.now c.args.cursor.now.free c.args.cursor.now.stage c.args.self.now.tokens.has (ap is_not (sym c.look.ensures.means) ∙ sym c.if-is_not.ensures) (before c.args.cursor.now.at c.args.self.now.tokens.has (omega (arith, not_code c.look.result _ c.look.ensures.code c.if-is_not.ensures)), not_code c.look.result _ c.look.ensures.code c.if-is_not.ensures) (omega arith) c.from.result c.from.ensures g) c.pipeline.ensures.read
 
 pub part-returns-clause-read : goal.part-returns-clause-read
 part-returns-clause-read t c = rw c.max-cursor-2.ensures (part_low c.args.self.now.tokens.text.now c.args.self.now.tokens.count c.args.cursor.now.at c.args.self.now.left c.args.self.now.tokens.words.now c.args.cursor.now.code.now c.args.cursor.now.free c.part_number.result c.args.cursor.now.stage c.part_stage.result c.span-span.result.start c.span-span.result.len c.args.self.now.tokens.has c.span-span.ensures.spelled (before c.args.cursor.now.at c.args.self.now.tokens.has (low_before c.in-Some.part c.if-is_substitution.ensures c.in-Some.ensures)) (omega (arith, c.requires.room, (before c.args.cursor.now.at c.args.self.now.tokens.has (low_before c.in-Some.part c.if-is_substitution.ensures c.in-Some.ensures)))) ((low_number c.in-Some.part c.part_number.result c.if-is_substitution.ensures c.part_number.ensures).0 ∙ c.in-Some.ensures) (low_number c.in-Some.part c.part_number.result c.if-is_substitution.ensures c.part_number.ensures).1 (c.part_stage.ensures ∙ ap (tag_stage (part_code c.in-Some.part)) c.bytes.ensures ∙ ap (λ z. tag_stage z (take c.span-span.result.len (drop c.span-span.result.start c.args.self.now.tokens.text.now))) (sym (low_number c.in-Some.part c.part_number.result c.if-is_substitution.ensures c.part_number.ensures).0)))
@@ -338,7 +332,7 @@ pub subshell-returns-clause-no_command : goal.subshell-returns-clause-no_command
 subshell-returns-clause-no_command t c = on_err_weaker _ (λ e. subshell_4 c.args.self.now.tokens.text.now c.args.self.now.tokens.count c.args.cursor.now.at c.args.self.now.left c.args.cursor.now.code.now c.args.cursor.now.free c.args.cursor.now.stage c.args.self.now.tokens.has c.in_ok-sign.ensures.found c.max-cursor.result c.max-cursor.ensures c.in_ok-list.ensures.read c.in_ok-sign-2.ensures.found e) c.redirects.ensures.no_redirects
 
 pub subshell-returns-clause-read : goal.subshell-returns-clause-read
-subshell-returns-clause-read t c = on_ok_weaker _ (λ g. subshell_got c.args.self.now.tokens.text.now c.args.self.now.tokens.count c.args.cursor.now.at c.args.self.now.left c.args.cursor.now.code.now c.args.cursor.now.free c.args.cursor.now.stage c.args.self.now.tokens.has c.in_ok-sign.ensures.found c.max-cursor.result c.max-cursor.ensures c.in_ok-list.ensures.read c.in_ok-sign-2.ensures.found (omega (arith, c.requires.room.room, c.requires.some)) g) c.redirects.ensures.read
+subshell-returns-clause-read t c = on_ok_weaker _ (λ g. subshell_got c.args.self.now.tokens.text.now c.args.self.now.tokens.count c.args.cursor.now.at c.args.self.now.left c.args.cursor.now.code.now c.args.cursor.now.free c.args.cursor.now.stage c.args.self.now.tokens.has c.in_ok-sign.ensures.found c.max-cursor.result c.max-cursor.ensures c.in_ok-list.ensures.read c.in_ok-sign-2.ensures.found (omega (arith, c.requires.room, c.in_ok-sign.ensures.found.0)) g) c.redirects.ensures.read
 
 pub subshell-returns-in_err-list-clause-no_command : goal.subshell-returns-in_err-list-clause-no_command
 subshell-returns-in_err-list-clause-no_command t c = on_err _ (subshell_2 c.args.self.now.tokens.text.now c.args.self.now.tokens.count c.args.cursor.now.at c.args.self.now.left c.args.cursor.now.code.now c.args.cursor.now.free c.args.cursor.now.stage c.args.self.now.tokens.has c.in_ok-sign.ensures.found c.max-cursor.result c.max-cursor.ensures c.in_err-list.ensures.no_list)
@@ -356,7 +350,7 @@ pub while_loop-returns-clause-no_command : goal.while_loop-returns-clause-no_com
 while_loop-returns-clause-no_command t c = on_err_weaker _ (λ e. while_6 c.args.self.now.tokens.text.now c.args.self.now.tokens.count c.args.cursor.now.at c.args.self.now.left c.args.cursor.now.code.now c.args.cursor.now.free c.args.cursor.now.stage c.args.self.now.tokens.has c.in_ok-keyword.ensures.found c.in_ok-list.ensures.read c.in_ok-keyword-2.ensures.found c.in_ok-list-2.ensures.read c.in_ok-keyword-3.ensures.found e) c.redirects.ensures.no_redirects
 
 pub while_loop-returns-clause-read : goal.while_loop-returns-clause-read
-while_loop-returns-clause-read t c = on_ok_weaker _ (λ g. while_got c.args.self.now.tokens.text.now c.args.self.now.tokens.count c.args.cursor.now.at c.args.self.now.left c.args.cursor.now.code.now c.args.cursor.now.free c.args.cursor.now.stage c.args.self.now.tokens.has c.in_ok-keyword.ensures.found c.in_ok-list.ensures.read c.in_ok-keyword-2.ensures.found c.in_ok-list-2.ensures.read c.in_ok-keyword-3.ensures.found (omega (arith, c.requires.room.room, c.requires.some)) g) c.redirects.ensures.read
+while_loop-returns-clause-read t c = on_ok_weaker _ (λ g. while_got c.args.self.now.tokens.text.now c.args.self.now.tokens.count c.args.cursor.now.at c.args.self.now.left c.args.cursor.now.code.now c.args.cursor.now.free c.args.cursor.now.stage c.args.self.now.tokens.has c.in_ok-keyword.ensures.found c.in_ok-list.ensures.read c.in_ok-keyword-2.ensures.found c.in_ok-list-2.ensures.read c.in_ok-keyword-3.ensures.found (omega (arith, c.requires.room, c.in_ok-keyword.ensures.found.0)) g) c.redirects.ensures.read
 
 pub while_loop-returns-in_err-keyword-2-clause-no_command : goal.while_loop-returns-in_err-keyword-2-clause-no_command
 while_loop-returns-in_err-keyword-2-clause-no_command t c = on_err _ (while_3 c.args.self.now.tokens.text.now c.args.self.now.tokens.count c.args.cursor.now.at c.args.self.now.left c.args.cursor.now.code.now c.args.cursor.now.free c.args.cursor.now.stage c.args.self.now.tokens.has c.in_ok-keyword.ensures.found c.in_ok-list.ensures.read c.in_err-keyword-2.ensures.another)
@@ -373,14 +367,8 @@ while_loop-returns-in_err-list-2-clause-no_command t c = on_err _ (while_4 c.arg
 pub while_loop-returns-in_err-list-clause-no_command : goal.while_loop-returns-in_err-list-clause-no_command
 while_loop-returns-in_err-list-clause-no_command t c = on_err _ (while_2 c.args.self.now.tokens.text.now c.args.self.now.tokens.count c.args.cursor.now.at c.args.self.now.left c.args.cursor.now.code.now c.args.cursor.now.free c.args.cursor.now.stage c.args.self.now.tokens.has c.in_ok-keyword.ensures.found c.in_err-list.ensures.no_list)
 
-pub word-returns-clause-no_word : goal.word-returns-clause-no_word
-word-returns-clause-no_word t c = on_err_weaker _ (λ e. word_none c.args.self.now.tokens.text.now c.args.self.now.tokens.count c.args.cursor.now.at c.args.self.now.left c.args.cursor.now.code.now c.args.cursor.now.free c.args.link c.args.cursor.now.stage refl c.if-is_joined.ensures c.in_ok-part.ensures.read e) c.more.ensures.no_word
-
 pub word-returns-clause-read : goal.word-returns-clause-read
 word-returns-clause-read t c = on_ok_weaker _ (λ g. word_got c.args.self.now.tokens.text.now c.args.self.now.tokens.count c.args.cursor.now.at c.args.self.now.left c.args.cursor.now.code.now c.args.cursor.now.free c.args.link c.args.cursor.now.stage refl c.if-is_joined.ensures c.in_ok-part.ensures.read (omega arith) (omega arith) g) c.more.ensures.read
-
-pub word-returns-in_err-part-clause-no_word : goal.word-returns-in_err-part-clause-no_word
-word-returns-in_err-part-clause-no_word t c = on_err _ (word_no_part c.args.self.now.tokens.text.now c.args.cursor.now.at c.args.self.now.left (code_at (tokens_from c.args.self.now.tokens.text.now c.args.cursor.now.at)) refl c.if-is_joined.ensures c.in_err-part.ensures.no_part)
 
 pub word-returns-then-is_joined-clause-no_word : goal.word-returns-then-is_joined-clause-no_word
 word-returns-then-is_joined-clause-no_word t c = word_sticky c.args.self.now.tokens.text.now c.args.cursor.now.at c.args.self.now.left (code_at (tokens_from c.args.self.now.tokens.text.now c.args.cursor.now.at)) refl c.if-is_joined.ensures
