@@ -1,8 +1,8 @@
 //! What stands in the words of a text's code: tags, cells, and chains of cells.
 #![tactic(auto)]
 
-ghost use Rattle.std.specs.Prelude.{◌≡◌, ◌+◌, ◌<◌, length, take, drop, slice_index, MatchOption};
-ghost use Rattle.code.specs.Cells.{CommandIs, PartIs, AssignmentIs, RedirectIs, item_at, and_or_at, arm_at};
+ghost use Rattle.std.specs.Prelude.{◌≡◌, ◌+◌, ◌-◌, ◌^◌, ◌<◌, length, take, drop, slice_index, MatchOption};
+ghost use Rattle.code.specs.Cells.{CommandIs, PartIs, AssignmentIs, RedirectIs, item_at, and_or_at, arm_at, bytes_at};
 ghost use Rattle.code.specs.Chains.{chain_of, links_of};
 
 pub use crate::cells::{AndOr, Arm, Assignment, Command, Item, Part, Redirect};
@@ -44,9 +44,9 @@ impl<'a> Code<'a> {
 
     /// The bytes whose start stands in a word, and their number in the next.
     #[inline]
-    fn named(self, at: usize) -> &'a [u8]
-        requires { at < 4294967304 }
-        ensures { result.now ≡ take (slice_index self.entry.words.now (at + 1)) (drop (slice_index self.entry.words.now at) self.entry.text.now) }
+    pub fn bytes_at(self, at: usize) -> &'a [u8]
+        requires { at < 2 ^ 64 - 1 }
+        ensures { result.now ≡ bytes_at self.entry.text.now self.entry.words.now at }
     {
         self.bytes(self.word(at), self.word(at + 1))
     }
@@ -119,7 +119,7 @@ impl<'a> Code<'a> {
                 redirects: self.word(at + 4),
             },
             CommandTag::For => Command::For {
-                name: self.named(at + 2),
+                name: self.bytes_at(at + 2),
                 words: self.word(at + 4),
                 body: self.word(at + 5),
                 redirects: self.word(at + 6),
@@ -130,7 +130,7 @@ impl<'a> Code<'a> {
                 redirects: self.word(at + 4),
             },
             CommandTag::Function => Command::Function {
-                name: self.named(at + 2),
+                name: self.bytes_at(at + 2),
                 body: self.word(at + 4),
             },
         })
@@ -146,11 +146,11 @@ impl<'a> Code<'a> {
         Some(match kind {
             PartKind::Literal => Part::Literal {
                 quoted,
-                bytes: self.named(at + 2),
+                bytes: self.bytes_at(at + 2),
             },
             PartKind::Parameter => Part::Parameter {
                 quoted,
-                name: self.named(at + 2),
+                name: self.bytes_at(at + 2),
             },
             PartKind::Substitution => Part::Substitution {
                 quoted,
@@ -166,7 +166,7 @@ impl<'a> Code<'a> {
     {
         let at = at as usize;
         Assignment {
-            name: self.named(at + 1),
+            name: self.bytes_at(at + 1),
             value: self.word(at + 3),
         }
     }

@@ -5,8 +5,9 @@ use Rattle.std.proofs.lemmas.Bool.{eq-eqb, cases_Bool, both_ways, and_parts}
 use Rattle.std.proofs.lemmas.Slice.Eq.{compares_Decides}
 use Rattle.syntax.specs.Base.{same}
 use Rattle.syntax.specs.Tree.{literal, parameter, substitution, Word, no_parts, and_part, Words, no_words, and_word}
+use Rattle.code.specs.Cells.{bytes_at}
 use Rattle.code.specs.Chains.{cells, chain_of}
-use Rattle.code.specs.Code.{WordCode, WordsCode}
+use Rattle.code.specs.Code.{BytesCode, WordCode, WordsCode}
 use Rattle.code.proofs.Chains.{Chain, chain_bound, cells_end, cells_more}
 use Rattle.slice.specs.Slice.{literals, all_literals, word_bytes, left_out, names_covered}
 use Rattle.slice.specs.Says.{is_literal, spelled, WordsSays}
@@ -51,11 +52,14 @@ module _ (text words : List ℕ) where
   pub literals_of : (a : ℕ) (w : Word) → WordCode text words a w → list_all (is_literal words) (chain_of words a) ≡ literals w
   literals_of a w h = literals_in (length words + 1) a w (chain_bound words (part_count w) a (parts_chain a w h)) h
 
+  bytes_here : (a : ℕ) (s : List ℕ) → BytesCode text words (a + 2) (a + 3) s → bytes_at text words (a + 2) ≡ s
+  bytes_here a s h = let e : (a + 2) + 1 ≡ a + 3 = omega arith in ap (λ n. take (get_or words n 0) (drop (get_or words (a + 2) 0) text)) e ∙ h
+
   -- and they spell it
   spelled_in : (n a : ℕ) (w : Word) → part_count w ≤ n → WordCode text words a w → literals w ≡ true → spelled text words (cells words n a) ≡ word_bytes w
   spelled_in n a no_parts l h p = ap (spelled text words) (cells_end words n a h)
   spelled_in zero a (and_part q w) l h p = absurd (omega arith)
-  spelled_in (suc n) a (and_part (literal q s) w) l h p = ap (spelled text words) (cells_more words n a h.0) ∙ (let r = spelled_in n (get_or words a 0) w (omega arith) h.2 p in cc (h.1.1))
+  spelled_in (suc n) a (and_part (literal q s) w) l h p = ap (spelled text words) (cells_more words n a h.0) ∙ (let r = spelled_in n (get_or words a 0) w (omega arith) h.2 p in cc (bytes_here a s h.1.1))
   spelled_in (suc n) a (and_part (parameter q x) w) l h p = absurd (both_ways false refl p)
   spelled_in (suc n) a (and_part (substitution q x) w) l h p = absurd (both_ways false refl p)
 
@@ -75,12 +79,12 @@ module _ (text words : List ℕ) where
   all_literals_of a ws h = all_literals_in (length words + 1) a ws (chain_bound words (word_count ws) a (words_chain a ws h)) h
 
   -- a part more of a name, of which `left` is left
-  pub name_more : (a : ℕ) (xs ys left part after : List ℕ) → xs ≡ a ∷ ys → part ≡ take (get_or words (a + 3) 0) (drop (get_or words (a + 2) 0) text) → left ≡ part ++ after → same (spelled text words xs) left ≡ same (spelled text words ys) after
+  pub name_more : (a : ℕ) (xs ys left part after : List ℕ) → xs ≡ a ∷ ys → part ≡ bytes_at text words (a + 2) → left ≡ part ++ after → same (spelled text words xs) left ≡ same (spelled text words ys) after
   name_more a xs ys left part after e p f =
       let g : spelled text words xs ≡ part ++ spelled text words ys = ap (spelled text words) e ∙ ap (λ s. s ++ spelled text words ys) (sym p) in
       ap (λ s. same s left) g ∙ ap (same (part ++ spelled text words ys)) f ∙ same_front part (spelled text words ys) after
 
-  pub name_other : (a : ℕ) (xs ys left part : List ℕ) → xs ≡ a ∷ ys → part ≡ take (get_or words (a + 3) 0) (drop (get_or words (a + 2) 0) text) → ((after : List ℕ) → left ≡ part ++ after → ⊥) → same (spelled text words xs) left ≡ false
+  pub name_other : (a : ℕ) (xs ys left part : List ℕ) → xs ≡ a ∷ ys → part ≡ bytes_at text words (a + 2) → ((after : List ℕ) → left ≡ part ++ after → ⊥) → same (spelled text words xs) left ≡ false
   name_other a xs ys left part e p f =
       let g : spelled text words xs ≡ part ++ spelled text words ys = ap (spelled text words) e ∙ ap (λ s. s ++ spelled text words ys) (sym p) in
       same_not (spelled text words xs) left (λ d. f (spelled text words ys) (sym d ∙ g))

@@ -1,19 +1,30 @@
 -- What an answer says of each kind of code: it is right for every tree that is coded at the address and not too deep.
-use Rattle.std.specs.Prelude.{◌≡◌, ℕ, ◌+◌, ◌<◌, Bool, ◌&&◌, List, take, drop, slice_index, nat_le}
-use Rattle.std.specs.List.{flat_map}
+use Rattle.std.specs.Prelude.{◌≡◌, ℕ, ◌+◌, ◌<◌, Bool, ◌&&◌, List, slice_index, nat_le}
+use Rattle.std.specs.List.{flat_map, list_all}
 use Rattle.syntax.specs.Tree.{Words, Command, ElsePart, Pipeline, AndOr, CommandList}
 use Rattle.syntax.specs.Depth.{list_depth, and_or_depth, pipeline_depth, command_depth, else_depth}
+use Rattle.code.specs.Cells.{bytes_at}
+use Rattle.code.specs.Chains.{chain_of}
 use Rattle.code.specs.Code.{WordsCode, CommandCode, ElseCode, PipelineCode, AndOrCode, ListCode}
 use Rattle.slice.specs.Slice.{all_literals, names_covered, covers_command, covers_else, covers_pipeline, covers_and_or, covers_list}
 
--- whether the cell of a part says that it is a literal
+-- whether the cell of a part says that it is a literal; the parts of a word; the words from a on
 abbrev pub is_literal : List ℕ → ℕ → Bool
 is_literal words a = nat_le (slice_index words (a + 1)) 1
 
+abbrev pub literals_at : List ℕ → ℕ → Bool
+literals_at words a = list_all (is_literal words) (chain_of words a)
+
+abbrev pub all_literals_at : List ℕ → ℕ → Bool
+all_literals_at words a = list_all (λ b. literals_at words (slice_index words (b + 1))) (chain_of words a)
+
 module _ (text words : List ℕ) where
-  -- the bytes whose starts and numbers stand in these cells
+  -- the bytes that stand in these cells, and in those of the parts from a on
   abbrev pub spelled : List ℕ → List ℕ
-  spelled xs = flat_map (λ a. take (slice_index words (a + 3)) (drop (slice_index words (a + 2)) text)) xs
+  spelled xs = flat_map (λ a. bytes_at text words (a + 2)) xs
+
+  abbrev pub spelled_at : ℕ → List ℕ
+  spelled_at a = spelled (chain_of words a)
 
   abbrev pub WordsSays : ℕ → Bool → Type 0
   WordsSays a r = (ws : Words) → WordsCode text words a ws → r ≡ (all_literals ws && names_covered ws)

@@ -1,15 +1,13 @@
 //! Which texts are run: a look at the code before the first move.
 #![tactic(auto)]
 
-ghost use Rattle.std.specs.Prelude.{◌≡◌, ◌+◌, ◌≤◌, length, slice_index};
-ghost use Rattle.std.specs.List.{list_all, list_any};
+ghost use Rattle.std.specs.Prelude.{◌≡◌, ◌≤◌};
 ghost use Rattle.syntax.specs.Base.{same};
 ghost use Rattle.syntax.specs.Tree.{CommandList};
 ghost use Rattle.syntax.specs.Depth.{list_depth};
-ghost use Rattle.code.specs.Chains.{chain_of};
 ghost use Rattle.code.specs.Code.{ListCode};
 ghost use Rattle.slice.specs.Slice.{covers_list, left_out};
-ghost use Rattle.slice.specs.Says.{is_literal, spelled, WordsSays, ListSays, ElseSays, CommandSays, PipelineSays, AndOrSays};
+ghost use Rattle.slice.specs.Says.{all_literals_at, is_literal, literals_at, spelled_at, WordsSays, ListSays, ElseSays, CommandSays, PipelineSays, AndOrSays};
 
 use code::{Code, Command, LEVELS, Part};
 
@@ -27,14 +25,14 @@ fn is_literal(code: Code<'_>, at: u32) -> bool
 
 /// Whether the parts of a word are literals.
 fn literals(code: Code<'_>, parts: u32) -> bool
-    ensures { result ≡ list_all (is_literal code.entry.words.now) (chain_of code.entry.words.now parts) }
+    ensures { result ≡ literals_at code.entry.words.now parts }
 {
     code.chain(parts).all(|at| is_literal(code, at))
 }
 
 /// Whether these words are of literals.
 fn all_literals(code: Code<'_>, words: u32) -> bool
-    ensures { result ≡ list_all (λ a. list_all (is_literal code.entry.words.now) (chain_of code.entry.words.now (slice_index code.entry.words.now (a + 1)))) (chain_of code.entry.words.now words) }
+    ensures { result ≡ all_literals_at code.entry.words.now words }
 {
     code.chain(words)
         .all(|at| literals(code, code.word(at as usize + 1)))
@@ -42,12 +40,11 @@ fn all_literals(code: Code<'_>, words: u32) -> bool
 
 /// Whether the bytes of a word's parts are this name.
 fn is_word(code: Code<'_>, parts: u32, name: &[u8]) -> bool
-    ensures { result ≡ same (spelled code.entry.text.now code.entry.words.now (chain_of code.entry.words.now parts)) name.now }
+    ensures { result ≡ same (spelled_at code.entry.text.now code.entry.words.now parts) name.now }
 {
     let mut rest = name;
     for at in code.chain(parts) {
-        let bytes = code.bytes(code.word(at as usize + 2), code.word(at as usize + 3));
-        let Some(after) = rest.strip_prefix(bytes) else {
+        let Some(after) = rest.strip_prefix(code.bytes_at(at as usize + 2)) else {
             return false;
         };
         rest = after;
@@ -57,7 +54,7 @@ fn is_word(code: Code<'_>, parts: u32, name: &[u8]) -> bool
 
 /// Whether the bytes of a word's parts name a builtin that is not run.
 fn is_left_out(code: Code<'_>, parts: u32) -> bool
-    ensures { result ≡ left_out (spelled code.entry.text.now code.entry.words.now (chain_of code.entry.words.now parts)) }
+    ensures { result ≡ left_out (spelled_at code.entry.text.now code.entry.words.now parts) }
 {
     LEFT_OUT.iter().any(|name| is_word(code, parts, name))
 }
