@@ -14,7 +14,8 @@ pub enum CommandTag {
     Function,
 }
 
-/// What a redirection does: the second word of its cell.
+/// What a redirection does: it reads from a file or from the text, or writes over a file or behind it. The second word of its
+/// cell.
 #[derive(Clone, Copy, Debug, PartialEq, Eq)]
 pub enum RedirectTag {
     Input,
@@ -23,7 +24,7 @@ pub enum RedirectTag {
     Here,
 }
 
-/// What a part of a word is.
+/// What a part of a word stands for: its bytes, the value of a parameter, or what the commands behind `$(` print.
 #[derive(Clone, Copy, Debug, PartialEq, Eq)]
 pub enum PartKind {
     Literal,
@@ -36,6 +37,20 @@ pub enum PartKind {
 pub struct PartTag {
     pub kind: PartKind,
     pub quoted: bool,
+}
+
+impl PartTag {
+    /// Bytes outside of quotes.
+    pub const LITERAL: PartTag = PartTag {
+        kind: PartKind::Literal,
+        quoted: false,
+    };
+
+    /// Bytes in quotes.
+    pub const QUOTED: PartTag = PartTag {
+        kind: PartKind::Literal,
+        quoted: true,
+    };
 }
 
 /// A word that is no tag.

@@ -4,8 +4,8 @@ use mathlib.Core.Option.{Option, some, none}
 use Rattle.std.proofs.lemmas.Bool.{leb-false, leb-true}
 use Rattle.lexer.specs.declared.token.TheConstants.Keyword.{ALL as all_keywords}
 use Rattle.lexer.specs.declared.token.TheConstants.Sign.{ALL as all_signs}
-use Rattle.lexer.specs.declared.token.PartKind.TheVariants.{Literal, Parameter, Substitution}
-use Rattle.lexer.specs.declared.token.PartKind.{PartKind}
+use Rattle.code.specs.declared.tags.PartKind.TheVariants.{Literal, Parameter, Substitution}
+use Rattle.code.specs.declared.tags.PartKind.{PartKind}
 use Rattle.lexer.specs.declared.token.Token.TheVariants.{Part as part, Keyword as keyword, Name as name, Assignment as assignment, Sign as sign, Unclosed as unclosed}
 use Rattle.lexer.specs.declared.token.Token.{Token as Value}
 use Rattle.grammar.specs.Tokens.{Token, token, Pending, nothing, in_word, in_quote, in_text, after_dollar, in_name, in_sign, in_comment, Lexer, Scan, space, doubles, ends_word, scan_fresh, flush, is_sign, flush_and_scan, scan_byte, tokens, start}

@@ -6,7 +6,7 @@ use Rattle.std.proofs.lemmas.List.{drop_more, drop_all, drop-drop, length-drop}
 use Rattle.syntax.specs.Base.{pick, letter, digit}
 use Rattle.grammar.specs.Tokens.{token, doubles, ends_word, tokens}
 use Rattle.grammar.specs.Grammar.{sign}
-use Rattle.lexer.specs.declared.token.PartKind.TheVariants.{Literal, Parameter, Substitution}
+use Rattle.code.specs.declared.tags.PartKind.TheVariants.{Literal, Parameter, Substitution}
 use Rattle.lexer.specs.declared.token.Sign.{Sign}
 use Rattle.lexer.specs.declared.token.Sign.TheVariants.{Newline, OpenParen, CloseParen}
 use Rattle.lexer.specs.declared.token.Token.{Token as Value}

@@ -3,7 +3,7 @@ use Rattle.std.proofs.Common.{◌≡◌, ◌+◌, ◌<◌, ◌≤◌, Bool, true
 use Rattle.syntax.specs.Base.{pick}
 use Rattle.lexer.specs.declared.token.Keyword.{Keyword}
 use Rattle.lexer.specs.declared.token.Sign.{Sign}
-use Rattle.lexer.specs.declared.token.PartTag.{PartTag}
+use Rattle.code.specs.declared.tags.PartTag.{PartTag}
 use Rattle.lexer.specs.declared.token.Token.{Token}
 use Rattle.lexer.specs.declared.token.Token.TheVariants.{Part as part, Keyword as keyword, Name as name, Assignment as assignment, Sign as sign, Unclosed as unclosed}
 use Rattle.lexer.specs.Codes.{keyword_code, sign_code_of, part_code, code_of, next_code}

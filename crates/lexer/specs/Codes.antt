@@ -9,11 +9,11 @@ use Rattle.lexer.specs.declared.token.Keyword.{Keyword}
 use Rattle.lexer.specs.declared.token.Keyword.TheVariants.{When, If, Then, Elif, Else, Fi, While, Do, Done, For, In, Case, Esac, OpenBrace, CloseBrace, Not}
 use Rattle.lexer.specs.declared.token.Sign.{Sign}
 use Rattle.lexer.specs.declared.token.Sign.TheVariants.{Semicolon, Newline, Ampersand, Pipe, Redirect, OpenParen, CloseParen, And, Or, DoubleSemicolon}
-use Rattle.lexer.specs.declared.token.RedirectTag.{RedirectTag}
-use Rattle.lexer.specs.declared.token.RedirectTag.TheVariants.{Input, Output, Append, Here}
-use Rattle.lexer.specs.declared.token.PartKind.{PartKind}
-use Rattle.lexer.specs.declared.token.PartKind.TheVariants.{Literal, Parameter, Substitution}
-use Rattle.lexer.specs.declared.token.PartTag.{PartTag}
+use Rattle.code.specs.declared.tags.RedirectTag.{RedirectTag}
+use Rattle.code.specs.declared.tags.RedirectTag.TheVariants.{Input, Output, Append, Here}
+use Rattle.code.specs.declared.tags.PartKind.{PartKind}
+use Rattle.code.specs.declared.tags.PartKind.TheVariants.{Literal, Parameter, Substitution}
+use Rattle.code.specs.declared.tags.PartTag.{PartTag}
 use Rattle.lexer.specs.declared.token.Token.{Token}
 use Rattle.lexer.specs.declared.token.Token.TheVariants.{Part as part, Keyword as keyword, Name as name, Assignment as assignment, Sign as sign, Unclosed as unclosed}
 use Rattle.lexer.specs.declared.token.Bracket.{Bracket}

@@ -5,7 +5,8 @@ ghost use Rattle.grammar.specs.Tokens.{doubles, ends_word};
 ghost use Rattle.lexer.specs.Codes.{Signs};
 ghost use Rattle.syntax.specs.Base.{digit, letter, valid_name};
 
-use crate::token::{RedirectTag, Sign};
+use crate::token::Sign;
+use code::RedirectTag;
 
 /// The longest name.
 const MAX_NAME: usize = 32;

@@ -2,7 +2,8 @@
 ghost use Rattle.std.specs.Prelude.{◌≡◌, ℕ, ◌≢◌, MatchOption};
 ghost use Rattle.lexer.specs.Codes.{Decodes, code_of, part_code, sign_code_of};
 
-use crate::token::{Keyword, PartKind, PartTag, Sign, Token};
+use crate::token::{Keyword, Sign, Token};
+use code::{PartKind, PartTag};
 use std::error::Error;
 use std::fmt;
 

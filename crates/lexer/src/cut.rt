@@ -2,8 +2,9 @@
 ghost use Rattle.std.specs.Prelude.{◌≡◌, ℕ, ◌+◌, ◌<◌, length};
 
 use crate::bytes::{bare_len, find, is_letter, is_special, name_len, quoted_len, signs};
-use crate::token::{PartKind, PartTag, Sign, Token, bare_token};
+use crate::token::{Sign, Token, bare_token};
 use crate::tokens::Span;
+use code::{PartKind, PartTag};
 
 /// How the lexer stands between two tokens: whether in double quotes, and whether the next token is joined to the one
 /// before.

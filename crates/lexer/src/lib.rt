@@ -2,8 +2,9 @@
 #![tactic(auto)]
 
 pub use crate::codes::UnknownCode;
-pub use crate::token::{Keyword, PartKind, PartTag, RedirectTag, Sign, Token};
+pub use crate::token::{Keyword, Sign, Token};
 pub use crate::tokens::{Span, Tokens, tokenize};
+pub use code::{PartKind, PartTag, RedirectTag};
 
 mod bytes;
 mod codes;

@@ -5,6 +5,7 @@ ghost use Rattle.lexer.specs.Stored.{bare_code};
 ghost use Rattle.lexer.specs.Codes.{bracket_of, code_of, has_bytes, is_joined, keyword_name, part_of, sign_name};
 
 use crate::bytes::{find, is_name};
+use code::{PartKind, PartTag, RedirectTag};
 
 /// A word that has a meaning of its own.
 #[derive(Clone, Copy, Debug, PartialEq, Eq)]
@@ -40,30 +41,6 @@ pub enum Sign {
     And,
     Or,
     DoubleSemicolon,
-}
-
-/// What a redirection does: it reads from a file or from the text, or writes over a file or behind it.
-#[derive(Clone, Copy, Debug, PartialEq, Eq)]
-pub enum RedirectTag {
-    Input,
-    Output,
-    Append,
-    Here,
-}
-
-/// What a part of a word stands for: its bytes, the value of a parameter, or what the commands behind `$(` write.
-#[derive(Clone, Copy, Debug, PartialEq, Eq)]
-pub enum PartKind {
-    Literal,
-    Parameter,
-    Substitution,
-}
-
-/// A part of a word, in quotes or not.
-#[derive(Clone, Copy, Debug, PartialEq, Eq)]
-pub struct PartTag {
-    pub kind: PartKind,
-    pub quoted: bool,
 }
 
 #[derive(Clone, Copy, Debug, PartialEq, Eq)]
@@ -183,20 +160,6 @@ impl Sign {
             Sign::DoubleSemicolon => b";;",
         }
     }
-}
-
-impl PartTag {
-    /// Bytes outside of quotes.
-    pub const LITERAL: PartTag = PartTag {
-        kind: PartKind::Literal,
-        quoted: false,
-    };
-
-    /// Bytes in quotes.
-    pub const QUOTED: PartTag = PartTag {
-        kind: PartKind::Literal,
-        quoted: true,
-    };
 }
 
 impl Token {

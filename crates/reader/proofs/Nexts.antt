@@ -2,13 +2,13 @@
 use Rattle.std.proofs.Common.{◌≡◌, ℕ, ◌+◌, ◌<◌, ◌≤◌, Bool, true, false, ◌≢◌, ◌⊎◌, ◌||◌, nat_eq, [], ◌∷◌, ◌↔◌, IsTrue, List, sym, refl, ap, ◌∙◌, eqb, inl, inr, arith, rules}
 use Rattle.syntax.specs.Base.{pick}
 use Rattle.lexer.specs.declared.token.Sign.{Sign}
-use Rattle.lexer.specs.declared.token.RedirectTag.{RedirectTag}
-use Rattle.lexer.specs.declared.token.PartTag.{PartTag}
+use Rattle.code.specs.declared.tags.RedirectTag.{RedirectTag}
+use Rattle.code.specs.declared.tags.PartTag.{PartTag}
 use Rattle.lexer.specs.Codes.{sign_code_of, redirect_code, part_code, is_substitution}
 use Rattle.lexer.specs.Stored.{Has, tokens_from, code_at}
 use Rattle.lexer.proofs.Lexing.{code_out}
 use Rattle.lexer.specs.declared.token.Sign.TheVariants.{Semicolon, Newline, Ampersand, Pipe, Redirect, OpenParen, CloseParen, And, Or, DoubleSemicolon}
-use Rattle.lexer.specs.declared.token.RedirectTag.TheVariants.{Input, Output, Append, Here}
+use Rattle.code.specs.declared.tags.RedirectTag.TheVariants.{Input, Output, Append, Here}
 use Rattle.std.specs.List.{list_any}
 use Rattle.syntax.specs.Stage.{has_wildcard}
 use Rattle.lexer.proofs.Next.{eqb_no, eqb_yes}

@@ -6,8 +6,8 @@ use Rattle.lexer.specs.declared.token.Keyword.{Keyword as Kept}
 use Rattle.lexer.specs.declared.token.Keyword.TheVariants.{When, If, Then, Elif, Else, Fi, While, Do, Done, For, In, Case, Esac, OpenBrace, CloseBrace, Not}
 use Rattle.lexer.specs.declared.token.Sign.{Sign as Signed}
 use Rattle.lexer.specs.declared.token.Sign.TheVariants.{Semicolon, Newline, Ampersand, Pipe, Redirect, OpenParen, CloseParen, And, Or, DoubleSemicolon}
-use Rattle.lexer.specs.declared.token.RedirectTag.{RedirectTag}
-use Rattle.lexer.specs.declared.token.RedirectTag.TheVariants.{Input, Output, Append, Here}
+use Rattle.code.specs.declared.tags.RedirectTag.{RedirectTag}
+use Rattle.code.specs.declared.tags.RedirectTag.TheVariants.{Input, Output, Append, Here}
 use Rattle.lexer.specs.Codes.{keyword_code, sign_code_of}
 use Rattle.reader.specs.declared.ahead.Ahead.{Ahead}
 use Rattle.reader.specs.declared.ahead.Ahead.TheVariants.{End, Odd, Part, Keyword, Sign}

@@ -8,8 +8,8 @@ use Rattle.syntax.specs.Tree.{WordPart, Word, Words, Assignments, Redirects, Com
 use Rattle.syntax.specs.Stage.{positional, has_wildcard, part_stage, word_stage, words_stage, assignments_stage, redirects_stage, command_stage, else_stage, arms_stage, pipeline_stage, and_or_stage, list_stage}
 use Rattle.grammar.specs.Grammar.{put_before}
 use Rattle.grammar.specs.Parser.{Parsed, level, parse_part, parse_more, parse_word, parse_words, parse_assignments, parse_redirects, parse_arms, parse_pipeline, parse_negatable, parse_and_or, Lookahead, la_end, la_odd, la_part, Entry, keyword_table, sign_table}
-use Rattle.lexer.specs.declared.token.PartTag.{PartTag}
-use Rattle.lexer.specs.declared.token.RedirectTag.{RedirectTag}
+use Rattle.code.specs.declared.tags.PartTag.{PartTag}
+use Rattle.code.specs.declared.tags.RedirectTag.{RedirectTag}
 use Rattle.lexer.specs.Codes.{part_code, redirect_code}
 use Rattle.lexer.specs.Stored.{tokens_from}
 use Rattle.code.specs.Layout.{flag, PartAt, PartsAt, WordsAt, AssignmentsAt, RedirectsAt, CommandAt, ElseAt, ArmsAt, PipelineAt, AndOrAt, ListAt}
