@@ -11,32 +11,8 @@ use reader::{
 use std::alloc::{AllocError, Global};
 use std::fmt;
 
-/// What was expected, in words.
-pub fn expected_text(e: Expected) -> &'static str {
-    match e {
-        Expected::Command => "a command",
-        Expected::Word => "a word",
-        Expected::Name => "a name",
-        Expected::Separator => "';' or the end of a line",
-        Expected::Terminator => "';', '&' or the end of a line",
-        Expected::Then => "'then'",
-        Expected::Fi => "'fi'",
-        Expected::Do => "'do'",
-        Expected::Done => "'done'",
-        Expected::In => "'in'",
-        Expected::Esac => "'esac'",
-        Expected::OpenBrace => "'{'",
-        Expected::CloseBrace => "'}'",
-        Expected::CloseParen => "')'",
-        Expected::DoubleSemicolon => "';;'",
-        Expected::End => "the end of the text",
-        Expected::LessDepth => "lists at most 32 deep",
-        Expected::ShorterText => "at most 16384 bytes",
-    }
-}
-
 /// Why a text of this name is no list of commands.
-#[derive(Clone, Copy)]
+#[derive(Clone, Copy, Debug)]
 pub struct Fault<'a> {
     pub name: &'a str,
     pub text: &'a [u8],
@@ -45,10 +21,9 @@ pub struct Fault<'a> {
 
 impl fmt::Display for Fault<'_> {
     fn fmt<W: fmt::Write>(&self, f: &mut fmt::Formatter<W>) -> fmt::Result {
-        let name = self.name;
-        let place = place_at(self.text, self.error.at);
-        let expected = expected_text(self.error.expected);
-        write!(f, "{name}:{place}: expected {expected}")
+        let Fault { name, text, error } = *self;
+        let place = place_at(text, error.at);
+        write!(f, "{name}:{place}: {error}")
     }
 }
 

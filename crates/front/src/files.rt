@@ -8,6 +8,7 @@ use std::io::Read;
 pub fn fill<'a, R: Read>(from: &mut R, buffer: &'a mut [u8]) -> io::Result<&'a [u8]>
     ensures { IfOk result (λ bytes. length bytes.now ≤ length buffer.old) }
 {
+    // No count of reads: how much one gives is known only behind it.
     let mut n = 0;
     while n < buffer.len() {
         let got = from.read(&mut buffer[n..])?;

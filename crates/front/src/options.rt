@@ -91,6 +91,7 @@ impl Options {
         let mut moves = None;
         let mut limit = None;
         let mut source = None;
+        // No `for`: an option takes the word behind it.
         while let Some(word) = words.next() {
             match word.as_str() {
                 "-n" => input = false,

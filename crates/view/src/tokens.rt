@@ -42,6 +42,7 @@ pub fn show_tokens(rt: &HostRuntime, tokens: &Tokens<'_>) -> io::Result<()> {
     let text = tokens.text;
     let mut place = Place::START;
     let mut from = 0;
+    // Tokens are read by their place.
     for at in 0..tokens.len() {
         let Some(token) = tokens.get(at) else {
             break;
