@@ -1,4 +1,4 @@
-use Rattle.std.proofs.Common.{rules, ℕ, ◌+◌, ◌-◌, max, take, drop, length-set, sym, refl, ap, ◌∙◌, inl, inr, arith}
+use Rattle.std.proofs.Common.{rules, ℕ, ◌+◌, ◌-◌, max, take, drop, length-set, sym, refl, ap, ◌∙◌, arith}
 use Rattle.std.proofs.lemmas.Result.{on_ok_weaker, on_err_weaker}
 use Rattle.grammar.specs.Parser.{level, ends_list, is_newline, is_not}
 use Rattle.syntax.specs.Base.{pick}
@@ -17,7 +17,7 @@ use Rattle.reader.proofs.Compounds.{case_1, case_2, case_3, case_4, case_5, case
 use Rattle.reader.proofs.Elses.{fi_got, else_none, else_open, else_got, elif_no, elif_1, elif_2, elif_3, elif_4, elif_got}
 use Rattle.reader.proofs.Levels.{no_elses, no_lists}
 use Rattle.reader.proofs.Lists.{list_hold, list_close, list_blank, list_1, list_next, list_open, list_last, inside}
-use Rattle.reader.proofs.Parts.{more_holds, more_ends, more_fails, more_steps, part_none, part_low, run_none, run_open, run_got, word_sticky, word_no_part, word_none, word_got}
+use Rattle.reader.proofs.Parts.{more_holds, more_ends, more_fails, more_steps, part_none, part_low, run_none, run_open, run_got, word_sticky, word_got}
 use Rattle.reader.proofs.Pipelines.{plain_none, plain_got, negated_none, negated_got, pipeline_hold, pipeline_fail, pipeline_end, pipeline_step}
 use Rattle.reader.proofs.Lines.{redirects_hold, redirects_end, redirects_fail, redirects_step, words_hold, words_end, words_fail, words_step}
 use Rattle.reader.proofs.SimpleCommands.{empty_none, alone_got, sticky_none, not_first, word_out, words_out, redirects_out, simple_got}
