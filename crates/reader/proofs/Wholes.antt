@@ -60,5 +60,5 @@ module _ (t : List ℕ) (n : ℕ) {m w w1 : List ℕ} {j free s : ℕ} (hs : Has
       zero_max x = omega arith
 
 -- the same of an equal text and equal words
-pub moved : {t u w w1 : List ℕ} {root words s : ℕ} → t ≡ u → w ≡ w1 → IsProgram t w1 root words s → IsProgram u w root words s
-moved {t} {u} {w} {w1} {root} {words} {s} e f p = subst (λ z. IsProgram u z root words s) (sym f) (subst (λ z. IsProgram z w1 root words s) e p)
+pub moved : {t u w w1 : List ℕ} {root words s s1 : ℕ} → t ≡ u → w ≡ w1 → s ≡ s1 → IsProgram t w1 root words s1 → IsProgram u w root words s
+moved {t} {u} {w} {w1} {root} {words} {s} {s1} e f g p = subst (λ z. IsProgram u w root words z) (sym g) (subst (λ z. IsProgram u z root words s1) (sym f) (subst (λ z. IsProgram z w1 root words s1) e p))

@@ -57,7 +57,7 @@ pub fn read(text: &[u8], code: &mut [u32], tokens: &mut [u32]) -> Result<Program
         code,
         at: 0,
         free: FIRST,
-        stage: 0,
+        stage: stage::Stage::Core,
     };
     if let Err(stop) = parser.list(&mut cursor, ROOT, true) {
         return Err(stop.in_text(&tokens));
@@ -68,6 +68,6 @@ pub fn read(text: &[u8], code: &mut [u32], tokens: &mut [u32]) -> Result<Program
     Ok(Program {
         root: cursor.code[ROOT],
         words: cursor.free,
-        stage: cursor.stage,
+        stage: cursor.stage.number(),
     })
 }

@@ -8,6 +8,7 @@ ghost use Rattle.reader.specs.Reading.{joins};
 
 use crate::ahead::Ahead;
 use crate::error::{Expected, Stop};
+use crate::stage::Stage;
 use lexer::{Keyword, Sign, Span, Token, Tokens};
 
 mod commands;
@@ -31,7 +32,7 @@ pub struct Cursor<'c> {
     pub code: &'c mut [u32],
     pub at: usize,
     pub free: usize,
-    pub stage: u32,
+    pub stage: Stage,
 }
 
 impl Cursor<'_> {

@@ -1,14 +1,29 @@
-//! The stages that forms of the language raise a text to. A stage is a number: its order is theirs, and `Program` gives it
-//! as one.
+//! The stages of the language.
+ghost use Rattle.std.specs.Prelude.{◌≡◌, max};
+ghost use Rattle.reader.specs.Stages.{stage_number};
 
-pub const PIPES: u32 = 1;
+/// How much of the language a text needs.
+#[derive(Clone, Copy, Debug, PartialEq, Eq, PartialOrd, Ord)]
+pub enum Stage {
+    Core,
+    Pipes,
+    Substitutions,
+    Functions,
+    Patterns,
+    Processes,
+}
 
-pub const SUBSTITUTION: u32 = 2;
+impl Stage {
+    pub fn raised(self, by: Stage) -> Stage
+        ensures { stage_number result ≡ max (stage_number self) (stage_number by) }
+    {
+        self.max(by)
+    }
 
-pub const ARGUMENTS: u32 = 3;
-
-pub const LOOPS: u32 = 4;
-
-pub const WILDCARD: u32 = 4;
-
-pub const PROCESSES: u32 = 5;
+    /// The stage as `Program` gives it.
+    pub fn number(self) -> u32
+        ensures { result ≡ stage_number self }
+    {
+        self as u32
+    }
+}

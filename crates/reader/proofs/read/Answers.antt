@@ -12,7 +12,7 @@ pub returns-then-cursor-len : goal.returns-then-cursor-len
 returns-then-cursor-len c = rw (sym c.tokenize-tokens.ensures) (not_whole c.tokenize-tokens.result.text.now c.tokenize-tokens.result.count c.tokenize-tokens.result.has c.tokenize-tokens.result.small c.in_default.ensures.read c.in_text-then-cursor-len.result.at c.in_text-then-cursor-len.ensures (omega arith))
 
 pub returns : goal.returns
-returns c = moved c.tokenize-tokens.ensures (search rules) (program c.tokenize-tokens.result.text.now c.tokenize-tokens.result.count c.tokenize-tokens.result.has c.tokenize-tokens.result.small c.in_default.ensures.read (omega arith))
+returns c = moved c.tokenize-tokens.ensures (search rules) c.number.ensures (program c.tokenize-tokens.result.text.now c.tokenize-tokens.result.count c.tokenize-tokens.result.has c.tokenize-tokens.result.small c.in_default.ensures.read (omega arith))
 
 pub list-requires-clause-room : goal.list-requires-clause-room
 list-requires-clause-room c = record { inside = omega arith; fits = omega arith; room = omega (arith, few_tokens c.tokenize-tokens.result.text.now, c.tokenize-tokens.result.has.count, ap length c.tokenize-tokens.ensures); short = omega arith }

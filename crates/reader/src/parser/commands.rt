@@ -9,7 +9,7 @@ ghost use Rattle.reader.specs.Reading.{bare, names};
 use super::{Cursor, NIL, Parser};
 use crate::ahead::Ahead;
 use crate::error::{Expected, Stop};
-use crate::stage;
+use crate::stage::Stage;
 use code::CommandTag;
 use lexer::{Keyword, PartTag, Sign, Token};
 
@@ -120,7 +120,7 @@ impl Parser<'_> {
         cursor.code[top + 1] = CommandTag::Subshell as u32;
         cursor.at += 1;
         cursor.free += 4;
-        cursor.stage = cursor.stage.max(stage::PROCESSES);
+        cursor.stage = cursor.stage.raised(Stage::Processes);
         self.list(cursor, top + 2, true)?;
         self.sign(cursor, Sign::CloseParen, Expected::CloseParen)?;
         cursor.at += 1;
@@ -183,7 +183,7 @@ impl Parser<'_> {
         cursor.code[top + 1] = CommandTag::Case as u32;
         cursor.at += 1;
         cursor.free += 5;
-        cursor.stage = cursor.stage.max(stage::LOOPS);
+        cursor.stage = cursor.stage.raised(Stage::Patterns);
         self.word(cursor, top + 2)?;
         self.keyword(cursor, Keyword::In, Expected::In)?;
         cursor.at += 1;
@@ -215,7 +215,7 @@ impl Parser<'_> {
         self.keyword(cursor, Keyword::In, Expected::In)?;
         cursor.at += 1;
         cursor.free += 7;
-        cursor.stage = cursor.stage.max(stage::LOOPS);
+        cursor.stage = cursor.stage.raised(Stage::Patterns);
         self.words(cursor, top + 4)?;
         self.separator(cursor)?;
         cursor.at += 1;
@@ -252,7 +252,7 @@ impl Parser<'_> {
         self.keyword(cursor, Keyword::OpenBrace, Expected::OpenBrace)?;
         cursor.at += 1;
         cursor.free += 5;
-        cursor.stage = cursor.stage.max(stage::ARGUMENTS);
+        cursor.stage = cursor.stage.raised(Stage::Functions);
         self.list(cursor, top + 4, false)?;
         self.keyword(cursor, Keyword::CloseBrace, Expected::CloseBrace)?;
         cursor.at += 1;

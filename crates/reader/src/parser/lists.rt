@@ -3,12 +3,13 @@ ghost use Rattle.std.specs.Prelude.{◌≡◌, ℕ, ◌+◌, ◌<◌, ◌≤◌,
 ghost use Rattle.std.proofs.Math.Option.{none};
 ghost use Rattle.grammar.specs.Parser.{level, parse_and_or, parse_negatable, parse_pipeline};
 ghost use Rattle.lexer.specs.Codes.{next_code};
+ghost use Rattle.reader.specs.Stages.{stage_number};
 ghost use Rattle.reader.specs.Reading.{IsJoint, IsTerminator, Nest};
 ghost use Rattle.syntax.specs.Base.{pick};
 
 use super::{Cursor, NIL, Parser};
 use crate::error::{Expected, Stop};
-use crate::stage;
+use crate::stage::Stage;
 use code::CommandTag;
 use lexer::{Keyword, Sign, Token};
 
@@ -35,10 +36,14 @@ fn terminator(token: Option<Token>) -> Option<bool>
 }
 
 /// The stage of a command's end.
-fn end_stage(background: bool) -> u32
-    ensures { result ≡ pick background 5 0 }
+fn end_stage(background: bool) -> Stage
+    ensures { stage_number result ≡ pick background 5 0 }
 {
-    if background { stage::PROCESSES } else { 0 }
+    if background {
+        Stage::Processes
+    } else {
+        Stage::Core
+    }
 }
 
 /// Writes an else cell at `top`, a list of one command and its pipeline behind it, and behind those the command, an if
@@ -85,7 +90,7 @@ impl Parser<'_> {
                 return Ok(());
             }
             cursor.at += 1;
-            cursor.stage = cursor.stage.max(stage::PIPES);
+            cursor.stage = cursor.stage.raised(Stage::Pipes);
             open = cell;
         }
     }
@@ -177,7 +182,7 @@ impl Parser<'_> {
             };
             cursor.code[cell + 1] = u32::from(background);
             cursor.at += 1;
-            cursor.stage = cursor.stage.max(end_stage(background));
+            cursor.stage = cursor.stage.raised(end_stage(background));
             open = cell;
         }
     }

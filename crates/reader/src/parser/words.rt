@@ -4,13 +4,14 @@ ghost use Rattle.std.proofs.Math.Option.{none};
 ghost use Rattle.grammar.specs.Parser.{level, parse_assignments, parse_more, parse_part, parse_redirects, parse_simple, parse_word, parse_words};
 ghost use Rattle.lexer.specs.Codes.{is_substitution, next_code, part_code};
 ghost use Rattle.lexer.specs.Stored.{code_at};
+ghost use Rattle.reader.specs.Stages.{stage_number};
 ghost use Rattle.reader.specs.Reading.{IsAssignment, IsRedirect, ends_words, may_be_first, part_tag, tag_of, tag_stage, value_of};
 ghost use Rattle.syntax.specs.Base.{pick};
 ghost use Rattle.syntax.specs.Stage.{has_wildcard, positional};
 
 use super::{Cursor, NIL, Parser};
 use crate::error::{Expected, Stop};
-use crate::stage;
+use crate::stage::Stage;
 use code::CommandTag;
 use lexer::{PartKind, PartTag, RedirectTag, Sign, Span, Token};
 
@@ -82,14 +83,14 @@ fn is_positional(bytes: &[u8]) -> bool
 }
 
 /// The stage of a literal or a parameter with these bytes.
-fn part_stage(part: PartTag, bytes: &[u8]) -> u32
+fn part_stage(part: PartTag, bytes: &[u8]) -> Stage
     requires { is_substitution part.kind ≡ false }
-    ensures { result ≡ tag_stage (part_code part) bytes.now }
+    ensures { stage_number result ≡ tag_stage (part_code part) bytes.now }
 {
     match part.kind {
-        PartKind::Literal if !part.quoted && has_wildcard(bytes) => stage::WILDCARD,
-        PartKind::Parameter if is_positional(bytes) => stage::ARGUMENTS,
-        _ => 0,
+        PartKind::Literal if !part.quoted && has_wildcard(bytes) => Stage::Patterns,
+        PartKind::Parameter if is_positional(bytes) => Stage::Functions,
+        _ => Stage::Core,
     }
 }
 
@@ -120,7 +121,7 @@ impl Parser<'_> {
         cursor.free += 4;
         if is_substitution(part) {
             cursor.at += 1;
-            cursor.stage = cursor.stage.max(stage::SUBSTITUTION);
+            cursor.stage = cursor.stage.raised(Stage::Substitutions);
             self.list(cursor, top + 2, true)?;
             self.sign(cursor, Sign::CloseParen, Expected::CloseParen)?;
             cursor.at += 1;
@@ -130,7 +131,7 @@ impl Parser<'_> {
         cursor.code[top + 2] = span.start as u32;
         cursor.code[top + 3] = span.len as u32;
         cursor.at += 1;
-        cursor.stage = cursor.stage.max(part_stage(part, self.bytes(span)));
+        cursor.stage = cursor.stage.raised(part_stage(part, self.bytes(span)));
         Ok(())
     }
 
@@ -238,7 +239,7 @@ impl Parser<'_> {
         cursor.free += 4;
         cursor.stage = cursor
             .stage
-            .max(part_stage(PartTag::LITERAL, self.bytes(span)));
+            .raised(part_stage(PartTag::LITERAL, self.bytes(span)));
         self.more(cursor, cell)
     }
 

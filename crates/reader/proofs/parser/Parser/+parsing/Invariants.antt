@@ -4,6 +4,7 @@ use Rattle.syntax.specs.Tree.{Arms, Assignments, CommandList, Word, Pipeline, Re
 use Rattle.syntax.specs.Stage.{arms_stage, assignments_stage, list_stage, word_stage, pipeline_stage, redirects_stage, words_stage}
 use Rattle.grammar.specs.Parser.{level, parse_arms_go, parse_assignments_go, parse_list_go, parse_more_go, parse_pipeline_go, parse_redirects_go, parse_words_go}
 use Rattle.code.specs.Layout.{ArmsAt, AssignmentsAt, ListAt, PartsAt, PipelineAt, RedirectsAt, WordsAt}
+use Rattle.reader.specs.Stages.{stage_number}
 use Rattle.reader.specs.Parsing.{SameWords}
 use Rattle.reader.proofs.Chains.{Chain}
 use Rattle.reader.proofs.parser.Parser.+parsing.Given as goal
@@ -75,49 +76,49 @@ abbrev pub decreases-words : goal.decreases-words
 decreases-words l = 16 * l.self.now.left + 5
 
 abbrev pub invariant-and_or-pipelines : goal.invariant-and_or-pipelines
-invariant-and_or-pipelines l = SameWords l.fn.cursor l.cursor × Joining l.self.tokens.text.now l.self.tokens.count l.fn.cursor.at l.self.left l.initial.cursor.code.now l.cursor.code.now l.fn.cursor.free l.cursor.at l.cursor.free l.node l.fn.cursor.stage l.cursor.stage
+invariant-and_or-pipelines l = SameWords l.fn.cursor l.cursor × Joining l.self.tokens.text.now l.self.tokens.count l.fn.cursor.at l.self.left l.initial.cursor.code.now l.cursor.code.now l.fn.cursor.free l.cursor.at l.cursor.free l.node (stage_number l.fn.cursor.stage) (stage_number l.cursor.stage)
 
 abbrev pub decreases-and_or-pipelines : goal.decreases-and_or-pipelines
 decreases-and_or-pipelines l = l.self.tokens.count - l.cursor.at
 
 abbrev pub invariant-arms-arms : goal.invariant-arms-arms
-invariant-arms-arms l = SameWords l.initial.cursor l.cursor × Chain Arms arms_stage (parse_arms_go (level l.self.left)) (ArmsAt l.self.tokens.text.now) l.self.tokens.text.now l.self.tokens.count l.initial.cursor.at l.initial.cursor.code.now l.cursor.code.now l.initial.cursor.free l.initial.open l.cursor.at l.cursor.free l.open l.initial.cursor.stage l.cursor.stage
+invariant-arms-arms l = SameWords l.initial.cursor l.cursor × Chain Arms arms_stage (parse_arms_go (level l.self.left)) (ArmsAt l.self.tokens.text.now) l.self.tokens.text.now l.self.tokens.count l.initial.cursor.at l.initial.cursor.code.now l.cursor.code.now l.initial.cursor.free l.initial.open l.cursor.at l.cursor.free l.open (stage_number l.initial.cursor.stage) (stage_number l.cursor.stage)
 
 abbrev pub decreases-arms-arms : goal.decreases-arms-arms
 decreases-arms-arms l = l.self.tokens.count - l.cursor.at
 
 abbrev pub invariant-assignments-assignments : goal.invariant-assignments-assignments
-invariant-assignments-assignments l = SameWords l.initial.cursor l.cursor × Chain Assignments assignments_stage (parse_assignments_go (level l.self.left)) (AssignmentsAt l.self.tokens.text.now) l.self.tokens.text.now l.self.tokens.count l.initial.cursor.at l.initial.cursor.code.now l.cursor.code.now l.initial.cursor.free l.initial.open l.cursor.at l.cursor.free l.open l.initial.cursor.stage l.cursor.stage
+invariant-assignments-assignments l = SameWords l.initial.cursor l.cursor × Chain Assignments assignments_stage (parse_assignments_go (level l.self.left)) (AssignmentsAt l.self.tokens.text.now) l.self.tokens.text.now l.self.tokens.count l.initial.cursor.at l.initial.cursor.code.now l.cursor.code.now l.initial.cursor.free l.initial.open l.cursor.at l.cursor.free l.open (stage_number l.initial.cursor.stage) (stage_number l.cursor.stage)
 
 abbrev pub decreases-assignments-assignments : goal.decreases-assignments-assignments
 decreases-assignments-assignments l = l.self.tokens.count - l.cursor.at
 
 abbrev pub invariant-list-commands : goal.invariant-list-commands
-invariant-list-commands l = SameWords l.initial.cursor l.cursor × Chain CommandList list_stage (parse_list_go (level (l.self.left - 1)) l.last) (ListAt l.self.tokens.text.now) l.self.tokens.text.now l.self.tokens.count l.initial.cursor.at l.initial.cursor.code.now l.cursor.code.now l.initial.cursor.free l.initial.open l.cursor.at l.cursor.free l.open l.initial.cursor.stage l.cursor.stage
+invariant-list-commands l = SameWords l.initial.cursor l.cursor × Chain CommandList list_stage (parse_list_go (level (l.self.left - 1)) l.last) (ListAt l.self.tokens.text.now) l.self.tokens.text.now l.self.tokens.count l.initial.cursor.at l.initial.cursor.code.now l.cursor.code.now l.initial.cursor.free l.initial.open l.cursor.at l.cursor.free l.open (stage_number l.initial.cursor.stage) (stage_number l.cursor.stage)
 
 abbrev pub decreases-list-commands : goal.decreases-list-commands
 decreases-list-commands l = l.self.tokens.count - l.cursor.at
 
 abbrev pub invariant-more-parts : goal.invariant-more-parts
-invariant-more-parts l = SameWords l.initial.cursor l.cursor × Chain Word word_stage (parse_more_go (level l.self.left)) (PartsAt l.self.tokens.text.now) l.self.tokens.text.now l.self.tokens.count l.initial.cursor.at l.initial.cursor.code.now l.cursor.code.now l.initial.cursor.free l.initial.open l.cursor.at l.cursor.free l.open l.initial.cursor.stage l.cursor.stage
+invariant-more-parts l = SameWords l.initial.cursor l.cursor × Chain Word word_stage (parse_more_go (level l.self.left)) (PartsAt l.self.tokens.text.now) l.self.tokens.text.now l.self.tokens.count l.initial.cursor.at l.initial.cursor.code.now l.cursor.code.now l.initial.cursor.free l.initial.open l.cursor.at l.cursor.free l.open (stage_number l.initial.cursor.stage) (stage_number l.cursor.stage)
 
 abbrev pub decreases-more-parts : goal.decreases-more-parts
 decreases-more-parts l = l.self.tokens.count - l.cursor.at
 
 abbrev pub invariant-pipeline-commands : goal.invariant-pipeline-commands
-invariant-pipeline-commands l = SameWords l.initial.cursor l.cursor × Chain Pipeline pipeline_stage (parse_pipeline_go (level l.self.left)) (PipelineAt l.self.tokens.text.now) l.self.tokens.text.now l.self.tokens.count l.initial.cursor.at l.initial.cursor.code.now l.cursor.code.now l.initial.cursor.free l.initial.open l.cursor.at l.cursor.free l.open l.initial.cursor.stage l.cursor.stage
+invariant-pipeline-commands l = SameWords l.initial.cursor l.cursor × Chain Pipeline pipeline_stage (parse_pipeline_go (level l.self.left)) (PipelineAt l.self.tokens.text.now) l.self.tokens.text.now l.self.tokens.count l.initial.cursor.at l.initial.cursor.code.now l.cursor.code.now l.initial.cursor.free l.initial.open l.cursor.at l.cursor.free l.open (stage_number l.initial.cursor.stage) (stage_number l.cursor.stage)
 
 abbrev pub decreases-pipeline-commands : goal.decreases-pipeline-commands
 decreases-pipeline-commands l = l.self.tokens.count - l.cursor.at
 
 abbrev pub invariant-redirects-redirects : goal.invariant-redirects-redirects
-invariant-redirects-redirects l = SameWords l.initial.cursor l.cursor × Chain Redirects redirects_stage (parse_redirects_go (level l.self.left)) (RedirectsAt l.self.tokens.text.now) l.self.tokens.text.now l.self.tokens.count l.initial.cursor.at l.initial.cursor.code.now l.cursor.code.now l.initial.cursor.free l.initial.open l.cursor.at l.cursor.free l.open l.initial.cursor.stage l.cursor.stage
+invariant-redirects-redirects l = SameWords l.initial.cursor l.cursor × Chain Redirects redirects_stage (parse_redirects_go (level l.self.left)) (RedirectsAt l.self.tokens.text.now) l.self.tokens.text.now l.self.tokens.count l.initial.cursor.at l.initial.cursor.code.now l.cursor.code.now l.initial.cursor.free l.initial.open l.cursor.at l.cursor.free l.open (stage_number l.initial.cursor.stage) (stage_number l.cursor.stage)
 
 abbrev pub decreases-redirects-redirects : goal.decreases-redirects-redirects
 decreases-redirects-redirects l = l.self.tokens.count - l.cursor.at
 
 abbrev pub invariant-words-words : goal.invariant-words-words
-invariant-words-words l = SameWords l.initial.cursor l.cursor × Chain Words words_stage (parse_words_go (level l.self.left)) (WordsAt l.self.tokens.text.now) l.self.tokens.text.now l.self.tokens.count l.initial.cursor.at l.initial.cursor.code.now l.cursor.code.now l.initial.cursor.free l.initial.open l.cursor.at l.cursor.free l.open l.initial.cursor.stage l.cursor.stage
+invariant-words-words l = SameWords l.initial.cursor l.cursor × Chain Words words_stage (parse_words_go (level l.self.left)) (WordsAt l.self.tokens.text.now) l.self.tokens.text.now l.self.tokens.count l.initial.cursor.at l.initial.cursor.code.now l.cursor.code.now l.initial.cursor.free l.initial.open l.cursor.at l.cursor.free l.open (stage_number l.initial.cursor.stage) (stage_number l.cursor.stage)
 
 abbrev pub decreases-words-words : goal.decreases-words-words
 decreases-words-words l = l.self.tokens.count - l.cursor.at
