@@ -15,6 +15,7 @@ use Rattle.lexer.specs.Stored.{TokenAt, TokensAt, tokens_of, tokens_from, code_a
 use Rattle.lexer.specs.Written.{Brackets, none_open, one_open, entry}
 use Rattle.lexer.proofs.WithBytes.{big_kind, bracket_bytes, bracket_fits}
 use Rattle.lexer.proofs.Same.{code_same}
+use Rattle.lexer.proofs.Lex.{tokens_few}
 use Rattle.lexer.proofs.Next.{open_quotes}
 
 pub opens_frame : {m v : List ℕ} {hi a hi' : ℕ} {o : List Bool} → Brackets m hi a o → hi ≤ hi' → ((k : ℕ) → k < hi → get_or v k 0 ≡ get_or m k 0) → Brackets v hi' a o
@@ -130,6 +131,11 @@ pub finish_quoted : {t m : List ℕ} {at : ℕ} {s : State} {top n : ℕ} → Le
 finish_quoted {t} {m} {at} {s} {top} {n} h l e r =
     let q : tokens start t ≡ h.done ++ (sign (34 ∷ []) ∷ []) = h.says ∙ rw (e, drop_all at t l) in
     has_all t _ (n + 1) (omega (arith, ap length q, length_push h.done (sign (34 ∷ [])), h.count)) (subst (λ z. TokensAt t z (entry m (3 * n + 3) 45 (length t) 0)) (sym q) (push t h.done (sign (34 ∷ [])) m _ n h.toks h.count (λ j z. below m (3 * n + 3) 45 (length t) 0 j z) (at0 m (3 * n + 3) 45 (length t) 0 (omega arith) ∙ open_quotes.1, λ x. absurd (omega arith), (omega (arith, at1 m (3 * n + 3) 45 (length t) 0 (omega arith)), λ x. absurd (omega arith)))))
+
+-- at most one token for each byte, and one
+pub few_held : {t : List ℕ} {n : ℕ} {m : List ℕ} → Has t n m → n ≤ length t + 1
+unfolding tokens_of
+few_held {t} h = omega (arith, h.count, tokens_few t)
 
 -- the tokens from one on: that one and those behind it, or none
 pub here : {t : List ℕ} {n : ℕ} {m : List ℕ} (i : ℕ) → Has t n m → i < n → tokens_from t i ≡ get_or (tokens_of t) i (token false 0 []) ∷ tokens_from t (i + 1)
