@@ -22,7 +22,7 @@ const LITERAL: u32 = 0;
 fn part_number(part: PartTag) -> u32
     ensures { result + pick (is_substitution part.kind) 1 0 ≡ part_code part }
 {
-    2 * part.kind as u32 + u32::from(part.quoted)
+    u32::from(part)
 }
 
 fn is_substitution(part: PartTag) -> bool
