@@ -1,10 +1,9 @@
 -- The tokens of a text have codes.
-use Rattle.std.proofs.Common.{◌≡◌, ℕ, zero, suc, ◌+◌, ◌<◌, Bool, true, false, not, ◌&&◌, ◌||◌, T, eqb, leb, List, [], ◌∷◌, ◌++◌, length, drop, sym, refl, subst, arith, rules, leb→le}
+use Rattle.std.proofs.Common.{◌≡◌, ℕ, zero, suc, ◌+◌, ◌<◌, Bool, true, false, not, ◌&&◌, ◌||◌, eqb, leb, List, [], ◌∷◌, ◌++◌, length, drop, refl, arith, rules}
 use mathlib.Core.Option.{Option, some, none}
-use lib.Dec.{nleb→lt}
-use Rattle.lexer.specs.declared.token.Keyword.TheVariants.{When, If, Then, Elif, Else, Fi, While, Do, Done, For, In, Case, Esac, OpenBrace, CloseBrace, Not}
-use Rattle.lexer.specs.declared.token.Sign.TheVariants.{Semicolon, Newline, Ampersand, Pipe, Redirect, OpenParen, CloseParen, And, Or, DoubleSemicolon}
-use Rattle.lexer.specs.declared.token.RedirectTag.TheVariants.{Input, Output, Append, Here}
+use Rattle.std.proofs.lemmas.Bool.{leb-false, leb-true}
+use Rattle.lexer.specs.declared.token.TheConstants.Keyword.{ALL as all_keywords}
+use Rattle.lexer.specs.declared.token.TheConstants.Sign.{ALL as all_signs}
 use Rattle.lexer.specs.declared.token.PartKind.TheVariants.{Literal, Parameter, Substitution}
 use Rattle.lexer.specs.declared.token.PartKind.{PartKind}
 use Rattle.lexer.specs.declared.token.Token.TheVariants.{Part as part, Keyword as keyword, Name as name, Assignment as assignment, Sign as sign, Unclosed as unclosed}
@@ -16,7 +15,7 @@ use Rattle.lexer.specs.Codes.{keyword_code, sign_code_of, part_code, code_of, ne
 use Rattle.lexer.specs.Stored.{index_of, sign_names, sign_code, keyword_index, bare_code, assignment_code, token_code, code_at, tokens_of, tokens_from}
 use Rattle.lexer.specs.declared.codes.UnknownCode.{UnknownCode}
 use Rattle.lexer.proofs.WithBytes.{index_le}
-use Rattle.lexer.proofs.Runs.{name_short}
+use Rattle.lexer.proofs.Runs.{Counts, name_short}
 use Rattle.std.specs.declared.result.Result.{Result}
 use Rattle.std.specs.declared.result.Result.TheVariants.{Ok, Err}
 use Rattle.std.specs.Result.{result_ok}
@@ -28,25 +27,21 @@ pub record Coded (k : ℕ) : Type 0 where
   pub fits : Fits value
   pub code : code_of value ≡ k
 
--- codes that count up from b: each number of that stretch is the code of one
-abbrev Counts : {A : Type 0} → (A → ℕ) → List A → ℕ → Type 0
-Counts f [] b = Unit {0}
-Counts f (x ∷ xs) b = (f x ≡ b) × Counts f xs (suc b)
-
+-- where codes count up, each number of that stretch is the code of one
 counted : {A : Type 0} (f : A → ℕ) (xs : List A) (b i : ℕ) → Counts f xs b → i < length xs → (x : A) × (f x ≡ b + i)
 counted f [] b i h l = absurd (omega arith)
 counted f (x ∷ xs) b zero h l = (x, omega (arith, h.0))
 counted f (x ∷ xs) b (suc i) h l = let r = counted f xs (suc b) i h.1 (omega arith) in (r.0, omega (arith, r.1))
 
 keyword_coded : (i : ℕ) → i < 16 → Coded (16 + i)
-keyword_coded i l = let r = counted keyword_code (When ∷ If ∷ Then ∷ Elif ∷ Else ∷ Fi ∷ While ∷ Do ∷ Done ∷ For ∷ In ∷ Case ∷ Esac ∷ OpenBrace ∷ CloseBrace ∷ Not ∷ []) 16 i (search rules) l in record { value = keyword r.0; fits = tt; code = r.1 }
+keyword_coded i l = let r = counted keyword_code all_keywords 16 i (search rules) l in record { value = keyword r.0; fits = tt; code = r.1 }
 
 sign_value : (i : ℕ) → i < 13 → Coded (32 + i)
-sign_value i l = let r = counted sign_code_of (Semicolon ∷ Newline ∷ Ampersand ∷ Pipe ∷ Redirect Input ∷ Redirect Output ∷ Redirect Append ∷ Redirect Here ∷ OpenParen ∷ CloseParen ∷ And ∷ Or ∷ DoubleSemicolon ∷ []) 32 i (search rules) l in record { value = sign r.0; fits = tt; code = r.1 }
+sign_value i l = let r = counted sign_code_of all_signs 32 i (search rules) l in record { value = sign r.0; fits = tt; code = r.1 }
 
 sign_coded : (b : Name) → Coded (sign_code b)
 unfolding sign_code
-sign_coded b = by_bool (λ x. leb 13 (index_of b sign_names) ≡ x → Coded (32 + index_of b sign_names)) (leb 13 (index_of b sign_names)) (λ x e. record { value = unclosed; fits = tt; code = omega (arith, index_le b sign_names, leb→le _ _ (subst T (sym e) tt)) }) (λ x e. sign_value (index_of b sign_names) (nleb→lt 13 (index_of b sign_names) (subst (λ y. T (not y)) (sym e) tt))) refl
+sign_coded b = by_bool (λ x. leb 13 (index_of b sign_names) ≡ x → Coded (32 + index_of b sign_names)) (leb 13 (index_of b sign_names)) (λ x e. record { value = unclosed; fits = tt; code = omega (arith, index_le b sign_names, leb-true 13 (index_of b sign_names) e) }) (λ x e. sign_value (index_of b sign_names) (leb-false 13 (index_of b sign_names) e)) refl
 
 assignment_coded : (o : Option Split) (d : ℕ) → Coded d → Coded (assignment_code o d)
 assignment_coded none d h = h
@@ -58,7 +53,7 @@ literal_coded false = record { value = part (record { kind = Literal; quoted = f
 
 bare_coded : (b : Name) → Coded (bare_code b)
 unfolding bare_code keyword_index
-bare_coded b = by_bool (λ x. leb 16 (index_of b reserved) ≡ x → Coded (pick x (assignment_code (split_equals b []) (pick (valid_name b) 46 0)) (16 + index_of b reserved))) (leb 16 (index_of b reserved)) (λ x e. assignment_coded (split_equals b []) _ (literal_coded (valid_name b))) (λ x e. keyword_coded (index_of b reserved) (nleb→lt 16 (index_of b reserved) (subst (λ y. T (not y)) (sym e) tt))) refl
+bare_coded b = by_bool (λ x. leb 16 (index_of b reserved) ≡ x → Coded (pick x (assignment_code (split_equals b []) (pick (valid_name b) 46 0)) (16 + index_of b reserved))) (leb 16 (index_of b reserved)) (λ x e. assignment_coded (split_equals b []) _ (literal_coded (valid_name b))) (λ x e. keyword_coded (index_of b reserved) (leb-false 16 (index_of b reserved) e)) refl
 
 joined_part : (k : PartKind) (q : Bool) (g : Bool) → Coded (part_code (record { kind = k; quoted = q }) + pick g 8 0)
 joined_part k q g = record { value = part (record { kind = k; quoted = q }) g; fits = tt; code = refl }

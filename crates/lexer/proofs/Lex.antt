@@ -1,10 +1,11 @@
 -- One token after the other: where nothing has begun, the tokens of a text are one token and those of what is behind it.
-use Rattle.std.proofs.Common.{◌≡◌, ℕ, ◌+◌, ◌≤◌, Bool, true, false, not, ◌&&◌, ◌||◌, T, eqb, List, [], ◌∷◌, ◌++◌, length, refl, ap, ◌∙◌, subst, arith}
+use Rattle.std.proofs.Common.{◌≡◌, ℕ, ◌+◌, ◌≤◌, Bool, true, false, not, ◌&&◌, ◌||◌, eqb, List, [], ◌∷◌, ◌++◌, length, refl, ◌∙◌, arith}
 use Rattle.syntax.specs.Base.{pick, letter, digit}
 use Rattle.grammar.specs.Tokens.{start, Token, token, Pending, nothing, in_word, in_quote, in_text, after_dollar, in_name, in_sign, in_comment, Lexer, lexer, scan, Scan, space, doubles, ends_word, scan_fresh, flush, is_sign, flush_and_scan, with_pending, scan_byte, tokens}
 use Rattle.grammar.specs.Grammar.{sign}
-use Rattle.grammar.proofs.Find.{length_app}
-use Rattle.grammar.proofs.Fit.{app_assoc, by_bool}
+use Rattle.grammar.proofs.Fit.{by_bool}
+use Rattle.std.proofs.lemmas.Bool.{or_parts}
+use Rattle.std.proofs.lemmas.List.{append-nil, append_assoc, length-append}
 
 abbrev pub run_of : (ℕ → Bool) → List ℕ → List ℕ
 run_of f [] = []
@@ -14,19 +15,11 @@ abbrev pub after : (ℕ → Bool) → List ℕ → List ℕ
 after f [] = []
 after f (c ∷ cs) = pick (f c) (c ∷ cs) (after f cs)
 
-nil_r : {A : Type 0} (s : List A) → s ++ [] ≡ s
-nil_r [] = refl
-nil_r (x ∷ s) = ap (λ z. x ∷ z) (nil_r s)
-
 abbrev rest : Bool → List Bool → Bool → Lexer
 rest d o g = lexer d o g nothing
 
 abbrev goes : Scan → List ℕ → List Token
 goes t cs = t.out ++ tokens t.state cs
-
-or_none : (a b : Bool) → a || b ≡ false → (a ≡ false) × (b ≡ false)
-or_none true b e = absurd (subst T e tt)
-or_none false b e = (refl, e)
 
 -- a run of bytes
 abbrev ends_text : ℕ → Bool
@@ -36,16 +29,16 @@ abbrev no_name : ℕ → Bool
 no_name c = not (letter c || digit c)
 
 pub word_scan : (o : List Bool) (g : Bool) (w t : List ℕ) → tokens (lexer false o g (in_word w)) t ≡ token g 0 (w ++ run_of ends_word t) ∷ tokens (rest false o true) (after ends_word t)
-word_scan o g w [] = rw (nil_r w)
-word_scan o g w (c ∷ cs) = by_bool (λ b. goes (pick b (flush_and_scan (lexer false o g (in_word w)) c) (with_pending (lexer false o g (in_word w)) (in_word (w ++ (c ∷ []))))) cs ≡ token g 0 (w ++ pick b [] (c ∷ run_of ends_word cs)) ∷ tokens (rest false o true) (pick b (c ∷ cs) (after ends_word cs))) (ends_word c) (λ e. rw (nil_r w)) (λ e. word_scan o g (w ++ (c ∷ [])) cs ∙ rw (app_assoc w (c ∷ []) (run_of ends_word cs)))
+word_scan o g w [] = rw (append-nil w)
+word_scan o g w (c ∷ cs) = by_bool (λ b. goes (pick b (flush_and_scan (lexer false o g (in_word w)) c) (with_pending (lexer false o g (in_word w)) (in_word (w ++ (c ∷ []))))) cs ≡ token g 0 (w ++ pick b [] (c ∷ run_of ends_word cs)) ∷ tokens (rest false o true) (pick b (c ∷ cs) (after ends_word cs))) (ends_word c) (λ e. rw (append-nil w)) (λ e. word_scan o g (w ++ (c ∷ [])) cs ∙ rw (append_assoc w (c ∷ []) (run_of ends_word cs)))
 
 pub text_scan : (o : List Bool) (g : Bool) (w t : List ℕ) → tokens (lexer true o g (in_text w)) t ≡ token g 1 (w ++ run_of ends_text t) ∷ tokens (rest true o true) (after ends_text t)
-text_scan o g w [] = rw (nil_r w)
-text_scan o g w (c ∷ cs) = by_bool (λ b. goes (pick b (flush_and_scan (lexer true o g (in_text w)) c) (with_pending (lexer true o g (in_text w)) (in_text (w ++ (c ∷ []))))) cs ≡ token g 1 (w ++ pick b [] (c ∷ run_of ends_text cs)) ∷ tokens (rest true o true) (pick b (c ∷ cs) (after ends_text cs))) (ends_text c) (λ e. rw (nil_r w)) (λ e. text_scan o g (w ++ (c ∷ [])) cs ∙ rw (app_assoc w (c ∷ []) (run_of ends_text cs)))
+text_scan o g w [] = rw (append-nil w)
+text_scan o g w (c ∷ cs) = by_bool (λ b. goes (pick b (flush_and_scan (lexer true o g (in_text w)) c) (with_pending (lexer true o g (in_text w)) (in_text (w ++ (c ∷ []))))) cs ≡ token g 1 (w ++ pick b [] (c ∷ run_of ends_text cs)) ∷ tokens (rest true o true) (pick b (c ∷ cs) (after ends_text cs))) (ends_text c) (λ e. rw (append-nil w)) (λ e. text_scan o g (w ++ (c ∷ [])) cs ∙ rw (append_assoc w (c ∷ []) (run_of ends_text cs)))
 
 pub name_scan : (d : Bool) (o : List Bool) (g : Bool) (w t : List ℕ) → tokens (lexer d o g (in_name w)) t ≡ token g (pick d 3 2) (w ++ run_of no_name t) ∷ tokens (rest d o true) (after no_name t)
-name_scan d o g w [] = rw (nil_r w)
-name_scan d o g w (c ∷ cs) = by_bool (λ b. goes (pick b (with_pending (lexer d o g (in_name w)) (in_name (w ++ (c ∷ [])))) (flush_and_scan (lexer d o g (in_name w)) c)) cs ≡ token g (pick d 3 2) (w ++ pick (not b) [] (c ∷ run_of no_name cs)) ∷ tokens (rest d o true) (pick (not b) (c ∷ cs) (after no_name cs))) (letter c || digit c) (λ e. name_scan d o g (w ++ (c ∷ [])) cs ∙ rw (app_assoc w (c ∷ []) (run_of no_name cs))) (λ e. rw (nil_r w))
+name_scan d o g w [] = rw (append-nil w)
+name_scan d o g w (c ∷ cs) = by_bool (λ b. goes (pick b (with_pending (lexer d o g (in_name w)) (in_name (w ++ (c ∷ [])))) (flush_and_scan (lexer d o g (in_name w)) c)) cs ≡ token g (pick d 3 2) (w ++ pick (not b) [] (c ∷ run_of no_name cs)) ∷ tokens (rest d o true) (pick (not b) (c ∷ cs) (after no_name cs))) (letter c || digit c) (λ e. name_scan d o g (w ++ (c ∷ [])) cs ∙ rw (append_assoc w (c ∷ []) (run_of no_name cs))) (λ e. rw (append-nil w))
 
 pub note_scan : (o : List Bool) (t : List ℕ) → tokens (lexer false o false in_comment) t ≡ tokens (rest false o false) (after (λ c. eqb c 10) t)
 note_scan o [] = refl
@@ -58,7 +51,7 @@ quoted o g w (c ∷ cs) = token g 1 w ∷ tokens (rest false o true) cs
 
 pub quote_scan : (o : List Bool) (g : Bool) (w t : List ℕ) → tokens (lexer false o g (in_quote w)) t ≡ quoted o g (w ++ run_of (λ c. eqb c 39) t) (after (λ c. eqb c 39) t)
 quote_scan o g w [] = refl
-quote_scan o g w (c ∷ cs) = by_bool (λ b. goes (pick b (scan (token g 1 w ∷ []) (rest false o true)) (with_pending (lexer false o g (in_quote w)) (in_quote (w ++ (c ∷ []))))) cs ≡ quoted o g (w ++ pick b [] (c ∷ run_of (λ x. eqb x 39) cs)) (pick b (c ∷ cs) (after (λ x. eqb x 39) cs))) (eqb c 39) (λ e. rw (nil_r w)) (λ e. quote_scan o g (w ++ (c ∷ [])) cs ∙ rw (app_assoc w (c ∷ []) (run_of (λ x. eqb x 39) cs)))
+quote_scan o g w (c ∷ cs) = by_bool (λ b. goes (pick b (scan (token g 1 w ∷ []) (rest false o true)) (with_pending (lexer false o g (in_quote w)) (in_quote (w ++ (c ∷ []))))) cs ≡ quoted o g (w ++ pick b [] (c ∷ run_of (λ x. eqb x 39) cs)) (pick b (c ∷ cs) (after (λ x. eqb x 39) cs))) (eqb c 39) (λ e. rw (append-nil w)) (λ e. quote_scan o g (w ++ (c ∷ [])) cs ∙ rw (append_assoc w (c ∷ []) (run_of (λ x. eqb x 39) cs)))
 
 abbrev pub signed : List Bool → ℕ → List ℕ → List Token
 signed o d [] = sign (d ∷ []) ∷ []
@@ -101,7 +94,7 @@ ended_pays (in_sign c) d g = omega arith
 ended_pays in_comment d g = omega arith
 
 and_open_pays : (d : Bool) (o : List Bool) (g : Bool) (k : Pending) (c : ℕ) → Pays (pend k + 1) (flush_and_scan (lexer d o g k) c)
-and_open_pays d o g k c = omega (arith, length_app (flush k d g) (scan_fresh d o (not (is_sign k)) c).out, ended_pays k d g, opens_pays d o (not (is_sign k)) c)
+and_open_pays d o g k c = omega (arith, length-append (flush k d g) (scan_fresh d o (not (is_sign k)) c).out, ended_pays k d g, opens_pays d o (not (is_sign k)) c)
 
 reads_pays : (d : Bool) (o : List Bool) (g : Bool) (k : Pending) (c : ℕ) → Pays (pend k + 1) (scan_byte (lexer d o g k) k c)
 reads_pays d o g nothing c = opens_pays d o g c
@@ -118,10 +111,10 @@ last_pays true = omega arith
 last_pays false = omega arith
 
 tokens_pay : (l : Lexer) (t : List ℕ) → length (tokens l t) ≤ length t + (pend l.pending + 1)
-tokens_pay l [] = omega (arith, length_app (flush l.pending l.quoted l.glue) (pick l.quoted (token false 4 (34 ∷ []) ∷ []) []), ended_pays l.pending l.quoted l.glue, last_pays l.quoted)
+tokens_pay l [] = omega (arith, length-append (flush l.pending l.quoted l.glue) (pick l.quoted (token false 4 (34 ∷ []) ∷ []) []), ended_pays l.pending l.quoted l.glue, last_pays l.quoted)
 tokens_pay l (c ∷ cs) =
     let t = scan_byte l l.pending c in
-    omega (arith, length_app t.out (tokens t.state cs), reads_pays l.quoted l.outer l.glue l.pending c, tokens_pay t.state cs)
+    omega (arith, length-append t.out (tokens t.state cs), reads_pays l.quoted l.outer l.glue l.pending c, tokens_pay t.state cs)
 
 pub tokens_few : (t : List ℕ) → length (tokens start t) ≤ length t + 1
 tokens_few t = omega (arith, tokens_pay start t)
@@ -162,17 +155,17 @@ at_amp o g cs = sign_scan o g 38 cs
 
 pub at_word : (o : List Bool) (g : Bool) (c : ℕ) (cs : List ℕ) → ends_word c ≡ false → eqb c 35 && not g ≡ false → tokens (rest false o g) (c ∷ cs) ≡ token g 0 (c ∷ run_of ends_word cs) ∷ tokens (rest false o true) (after ends_word cs)
 at_word o g c cs e f =
-    let e1 = or_none (space c) _ e in
-    let e2 = or_none (doubles c) _ e1.1 in
-    let e3 = or_none (eqb c 10) _ e2.1 in
-    let e4 = or_none (eqb c 40) _ e3.1 in
-    let e5 = or_none (eqb c 41) _ e4.1 in
-    let e6 = or_none (eqb c 34) _ e5.1 in
-    let e7 = or_none (eqb c 39) _ e6.1 in
+    let e1 = or_parts (space c) _ e in
+    let e2 = or_parts (doubles c) _ e1.1 in
+    let e3 = or_parts (eqb c 10) _ e2.1 in
+    let e4 = or_parts (eqb c 40) _ e3.1 in
+    let e5 = or_parts (eqb c 41) _ e4.1 in
+    let e6 = or_parts (eqb c 34) _ e5.1 in
+    let e7 = or_parts (eqb c 39) _ e6.1 in
     rw (e1.0, e3.0, f, e6.0, e7.0, e7.1, e4.0, e5.0, e2.0) (word_scan o g (c ∷ []) cs)
 
 pub at_text : (o : List Bool) (g : Bool) (c : ℕ) (cs : List ℕ) → ends_text c ≡ false → tokens (rest true o g) (c ∷ cs) ≡ token g 1 (c ∷ run_of ends_text cs) ∷ tokens (rest true o true) (after ends_text cs)
-at_text o g c cs e = let k = or_none (eqb c 34) _ e in rw (k.0, k.1) (text_scan o g (c ∷ []) cs)
+at_text o g c cs e = let k = or_parts (eqb c 34) _ e in rw (k.0, k.1) (text_scan o g (c ∷ []) cs)
 
 pub at_run : (d : Bool) (o : List Bool) (g : Bool) (cs : List ℕ) → tokens (rest d o g) (36 ∷ 40 ∷ cs) ≡ token g (pick d 6 5) [] ∷ tokens (rest false (true ∷ d ∷ o) false) cs
 at_run true o g cs = refl

@@ -1,5 +1,6 @@
 -- The tokens that are written, and what is left of the text.
-use Rattle.std.proofs.Common.{◌≡◌, ℕ, zero, suc, ◌+◌, ◌*◌, ◌<◌, ◌≤◌, Bool, true, false, ◌⊎◌, ◌≢◌, List, [], ◌∷◌, ◌++◌, length, get_or, drop, set, Some, None, sym, refl, ap, ◌∙◌, subst, inl, inr, arith}
+use Rattle.std.proofs.Common.{◌≡◌, ℕ, ◌+◌, ◌*◌, ◌<◌, ◌≤◌, Bool, true, false, ◌⊎◌, ◌≢◌, List, [], ◌∷◌, ◌++◌, length, get_or, drop, set, Some, None, sym, refl, ap, ◌∙◌, subst, inl, inr, arith}
+use Rattle.std.proofs.lemmas.Bool.{cases_lt}
 use Rattle.std.proofs.lemmas.List.{drop_all, drop_more, append-nil, append_assoc, length-append, length_push, get_or_push, get_or_append_left, get_or-set_same, get_or-set_other, length-set}
 use Rattle.grammar.specs.Tokens.{Token, token, tokens, start, rest_of}
 use Rattle.grammar.specs.Grammar.{sign}
@@ -14,6 +15,7 @@ use Rattle.lexer.specs.Stored.{TokenAt, TokensAt, tokens_of, tokens_from, code_a
 use Rattle.lexer.specs.Written.{Brackets, none_open, one_open, entry}
 use Rattle.lexer.proofs.WithBytes.{big_kind, bracket_bytes, bracket_fits}
 use Rattle.lexer.proofs.Same.{code_same}
+use Rattle.lexer.proofs.Lex.{tokens_few}
 use Rattle.lexer.proofs.Next.{open_quotes}
 
 pub opens_frame : {m v : List ℕ} {hi a hi' : ℕ} {o : List Bool} → Brackets m hi a o → hi ≤ hi' → ((k : ℕ) → k < hi → get_or v k 0 ≡ get_or m k 0) → Brackets v hi' a o
@@ -53,18 +55,8 @@ pub begin : (t m : List ℕ) → Lexing t m 0 fresh 0 0
 begin t m = record { outer = []; done = []; count = refl; says = refl; toks = λ k z. absurd (omega arith); brackets = none_open; near = omega arith; few = omega arith; within = omega arith }
 
 push : (t : List ℕ) (xs : List Token) (p : Token) (m v : List ℕ) (n : ℕ) → TokensAt t xs m → length xs ≡ n → ((k : ℕ) → k < 3 * n + 3 → get_or v k 0 ≡ get_or m k 0) → TokenAt t p v (3 * n + 3) → TokensAt t (xs ++ (p ∷ [])) v
-push t xs p m v n h e s y k z = by (le_or k n)
+push t xs p m v n h e s y k z = by (cases_lt k n)
   where
-    le_or : (k n : ℕ) → (k < n) ⊎ (n ≤ k)
-    le_or zero zero = inr (omega arith)
-    le_or zero (suc n) = inl (omega arith)
-    le_or (suc k) zero = inr (omega arith)
-    le_or (suc k) (suc n) = more (le_or k n)
-      where
-        more : (k < n) ⊎ (n ≤ k) → (suc k < suc n) ⊎ (suc n ≤ suc k)
-        more (inl a) = inl (omega arith)
-        more (inr a) = inr (omega arith)
-
     by : (k < n) ⊎ (n ≤ k) → TokenAt t (get_or (xs ++ (p ∷ [])) k (token false 0 [])) v (3 * k + 3)
     by (inl l) = rw (get_or_append_left xs (p ∷ []) (token false 0 []) k (omega arith), s (3 * k + 3) (omega arith), s (3 * k + 3 + 1) (omega arith), s (3 * k + 3 + 2) (omega arith)) (h k (omega arith))
     by (inr l) = let q : k ≡ n = omega (arith, length-append xs (p ∷ [])) in rw (q, get_or_push xs p (token false 0 []) n e) y
@@ -139,6 +131,11 @@ pub finish_quoted : {t m : List ℕ} {at : ℕ} {s : State} {top n : ℕ} → Le
 finish_quoted {t} {m} {at} {s} {top} {n} h l e r =
     let q : tokens start t ≡ h.done ++ (sign (34 ∷ []) ∷ []) = h.says ∙ rw (e, drop_all at t l) in
     has_all t _ (n + 1) (omega (arith, ap length q, length_push h.done (sign (34 ∷ [])), h.count)) (subst (λ z. TokensAt t z (entry m (3 * n + 3) 45 (length t) 0)) (sym q) (push t h.done (sign (34 ∷ [])) m _ n h.toks h.count (λ j z. below m (3 * n + 3) 45 (length t) 0 j z) (at0 m (3 * n + 3) 45 (length t) 0 (omega arith) ∙ open_quotes.1, λ x. absurd (omega arith), (omega (arith, at1 m (3 * n + 3) 45 (length t) 0 (omega arith)), λ x. absurd (omega arith)))))
+
+-- at most one token for each byte, and one
+pub few_held : {t : List ℕ} {n : ℕ} {m : List ℕ} → Has t n m → n ≤ length t + 1
+unfolding tokens_of
+few_held {t} h = omega (arith, h.count, tokens_few t)
 
 -- the tokens from one on: that one and those behind it, or none
 pub here : {t : List ℕ} {n : ℕ} {m : List ℕ} (i : ℕ) → Has t n m → i < n → tokens_from t i ≡ get_or (tokens_of t) i (token false 0 []) ∷ tokens_from t (i + 1)

@@ -1,6 +1,6 @@
 -- One step of the lexer, by the first byte.
-use Rattle.std.proofs.Common.{◌≡◌, ℕ, zero, suc, ◌+◌, ◌-◌, ◌<◌, ◌≤◌, Bool, true, false, not, ◌&&◌, ◌||◌, ◌==◌, T, eqb, ◌≢◌, List, [], ◌∷◌, length, get_or, take, drop, unwrap_or, Some, None, position, sym, refl, ap, ◌∙◌, subst, arith, eqb→eq, rules}
-use lib.Dec.{eqb_refl}
+use Rattle.std.proofs.Common.{◌≡◌, ℕ, zero, suc, ◌+◌, ◌-◌, ◌<◌, ◌≤◌, Bool, true, false, not, ◌&&◌, ◌||◌, ◌==◌, eqb, ◌≢◌, List, [], ◌∷◌, length, get_or, take, drop, unwrap_or, Some, None, position, sym, refl, ap, ◌∙◌, subst, arith, rules}
+use Rattle.std.proofs.lemmas.Bool.{and_right, eq-eqb, eqb-true, ne_eqb}
 use Rattle.std.specs.List.{position_or_len, take_while}
 use Rattle.std.proofs.lemmas.List.{drop_more, drop_all, drop-drop, length-drop}
 use Rattle.syntax.specs.Base.{pick, letter, digit}
@@ -18,12 +18,6 @@ use Rattle.lexer.specs.Cuts.{fresh, resting, Cuts}
 use Rattle.grammar.proofs.Fit.{by_bool}
 use Rattle.lexer.proofs.Lex.{run_of, signed, sign_scan, at_note, at_quote, at_word, at_text, at_run, at_name, at_arg, at_dollar}
 use Rattle.lexer.proofs.Runs.{run_is, after_is, found, missing, run_len, kept_len, first_or_end, run_bytes, run_rest, run_some, run_within}
-
-pub eqb_no : (m n : ℕ) → m ≢ n → eqb m n ≡ false
-eqb_no m n h = by_bool (λ b. eqb m n ≡ b → b ≡ false) (eqb m n) (λ e f. absurd (h (eqb→eq m n (subst T (sym e) tt)))) (λ e f. refl) refl
-
-pub eqb_yes : (m n : ℕ) → m ≡ n → eqb m n ≡ true
-eqb_yes m n h = by_bool (λ b. T b → b ≡ true) (eqb m n) (λ e f. refl) (λ e f. absurd f) (subst (λ z. T (eqb m z)) h (eqb_refl m))
 
 hd : (t : List ℕ) (i c : ℕ) → i < length t → get_or t i 0 ≡ c → drop i t ≡ c ∷ drop (i + 1) t
 hd t i c h e = drop_more t i 0 h ∙ ap (λ z. z ∷ drop (i + 1) t) e
@@ -72,14 +66,6 @@ code_dollar true false = refl
 code_dollar false true = refl
 code_dollar false false = refl
 
-and_not : (b : Bool) → b && not true ≡ false
-and_not true = refl
-and_not false = refl
-
-not_back : (b : Bool) → not (not b) ≡ b
-not_back true = refl
-not_back false = refl
-
 pub record Plain (c : ℕ) : Type 0 where
   pub n36 : c ≢ 36
   pub n34 : c ≢ 34
@@ -92,7 +78,7 @@ pub record Plain (c : ℕ) : Type 0 where
   pub n2 : doubles c ≡ false
 
 pub no_break : (c : ℕ) → Plain c → ends_word c ≡ false
-no_break c p = rw (eqb_no c 32 p.n32, eqb_no c 9 p.n9, p.n2, eqb_no c 10 p.n10, eqb_no c 40 p.n40, eqb_no c 41 p.n41, eqb_no c 34 p.n34, eqb_no c 39 p.n39, eqb_no c 36 p.n36)
+no_break c p = rw (ne_eqb c 32 p.n32, ne_eqb c 9 p.n9, p.n2, ne_eqb c 10 p.n10, ne_eqb c 40 p.n40, ne_eqb c 41 p.n41, ne_eqb c 34 p.n34, ne_eqb c 39 p.n39, ne_eqb c 36 p.n36)
 
 -- a list that does not begin with d
 abbrev pub NotFirst : ℕ → List ℕ → Type 0
@@ -107,7 +93,7 @@ not_first d (x ∷ xs) (suc i) f = not_first d xs i (λ l. f (omega arith))
 
 once_signed : (o : List Bool) (d : ℕ) (cs : List ℕ) → NotFirst d cs → signed o d cs ≡ sign (d ∷ []) ∷ tokens (resting fresh o) cs
 once_signed o d [] f = refl
-once_signed o d (c ∷ cs) f = rw (eqb_no c d f)
+once_signed o d (c ∷ cs) f = rw (ne_eqb c d f)
 
 sign_scanned : (g : Bool) (c : ℕ) (o : List Bool) (cs : List ℕ) → doubles c ≡ true → tokens (resting (record { quoted = false; joined = g }) o) (c ∷ cs) ≡ signed o c cs
 sign_scanned g c o cs e = by_bool (λ b. eqb c 59 ≡ b → Scanned c) (eqb c 59) (λ x y. for 59 x (sign_scan o g 59 cs)) (λ x1 y1. by_bool (λ b. eqb c 38 ≡ b → Scanned c) (eqb c 38) (λ x y. for 38 x (sign_scan o g 38 cs)) (λ x2 y2. by_bool (λ b. eqb c 124 ≡ b → Scanned c) (eqb c 124) (λ x y. for 124 x (sign_scan o g 124 cs)) (λ x3 y3. by_bool (λ b. eqb c 60 ≡ b → Scanned c) (eqb c 60) (λ x y. for 60 x (sign_scan o g 60 cs)) (λ x4 y4. for 62 (rw (x1, x2, x3, x4) at e) (sign_scan o g 62 cs)) refl) refl) refl) refl
@@ -116,7 +102,7 @@ sign_scanned g c o cs e = by_bool (λ b. eqb c 59 ≡ b → Scanned c) (eqb c 59
     Scanned d = tokens (resting (record { quoted = false; joined = g }) o) (d ∷ cs) ≡ signed o d cs
 
     for : (k : ℕ) → eqb c k ≡ true → Scanned k → Scanned c
-    for k x r = subst Scanned (sym (eqb→eq c k (subst T (sym x) tt))) r
+    for k x r = subst Scanned (sym (eqb-true c k x)) r
 
 module _ (t : List ℕ) (at : ℕ) (s : State) (h : at < length t) where
   -- a $ that is itself
@@ -128,13 +114,13 @@ module _ (t : List ℕ) (at : ℕ) (s : State) (h : at < length t) where
       both false o = refl
 
   pub n_dollar : get_or t at 0 ≡ 36 → at + 1 < length t → get_or t (at + 1) 0 ≢ 40 → letter (get_or t (at + 1) 0) ≡ false → digit (get_or t (at + 1) 0) || (eqb (get_or t (at + 1) 0) 35 || eqb (get_or t (at + 1) 0) 63) ≡ false → Cuts t at s (record { at = at + 1; state = record { quoted = s.quoted; joined = true }; token = Some (part (record { kind = Literal; quoted = s.quoted }) s.joined, record { start = at; len = 1 }) })
-  n_dollar b l ne le ar = record { goes = omega arith; within = omega arith; leaves = λ o. record { token = token s.joined (pick s.quoted 1 0) (36 ∷ []); code = code_dollar s.joined s.quoted; spelled = λ x. rw (hd t at 36 h b); inside = omega arith; is = rw (hd t at 36 h b, hd t (at + 1) (get_or t (at + 1) 0) l refl) (at_dollar s.quoted o s.joined (get_or t (at + 1) 0) (drop (at + 1 + 1) t) (eqb_no _ 40 ne) le ar) } }
+  n_dollar b l ne le ar = record { goes = omega arith; within = omega arith; leaves = λ o. record { token = token s.joined (pick s.quoted 1 0) (36 ∷ []); code = code_dollar s.joined s.quoted; spelled = λ x. rw (hd t at 36 h b); inside = omega arith; is = rw (hd t at 36 h b, hd t (at + 1) (get_or t (at + 1) 0) l refl) (at_dollar s.quoted o s.joined (get_or t (at + 1) 0) (drop (at + 1 + 1) t) (ne_eqb _ 40 ne) le ar) } }
 
   pub n_run : get_or t at 0 ≡ 36 → at + 1 < length t → get_or t (at + 1) 0 ≡ 40 → Cuts t at s (record { at = at + 2; state = fresh; token = Some (part (record { kind = Substitution; quoted = s.quoted }) s.joined, record { start = at; len = 0 }) })
   n_run e l f = record { goes = omega arith; within = omega arith; leaves = λ o. record { token = token s.joined (pick s.quoted 6 5) []; code = code_run s.joined s.quoted; spelled = λ x. no_bytes_in s.quoted x; inside = omega arith; is = rw (hd2 t at 36 40 l e f) (at_run s.quoted o s.joined (drop (at + 2) t)) } }
 
   pub n_name : (n : ℕ) → get_or t at 0 ≡ 36 → at + 1 < length t → get_or t (at + 1) 0 ≢ 40 → letter (get_or t (at + 1) 0) ≡ true → (r : List ℕ) → r ≡ drop (at + 1) t → n ≡ length (take_while (λ c. letter c || digit c) r) → Cuts t at s (record { at = at + 1 + n; state = record { quoted = s.quoted; joined = true }; token = Some (part (record { kind = Parameter; quoted = s.quoted }) s.joined, record { start = at + 1; len = n }) })
-  n_name n b l ne le r q j = record { goes = omega arith; within = run_within no_name t (at + 1) n l first k; leaves = λ o. record { token = token s.joined (pick s.quoted 3 2) (get_or t (at + 1) 0 ∷ run_of no_name (drop (at + 1 + 1) t)); code = code_name s.joined s.quoted _; spelled = λ x. run_bytes no_name t (at + 1) n l first k; inside = run_within no_name t (at + 1) n l first k; is = rw (hd t at 36 h b, hd t (at + 1) (get_or t (at + 1) 0) l refl, ← run_rest no_name t (at + 1) n l first k) (at_name s.quoted o s.joined (get_or t (at + 1) 0) (drop (at + 1 + 1) t) (eqb_no _ 40 ne) le) } }
+  n_name n b l ne le r q j = record { goes = omega arith; within = run_within no_name t (at + 1) n l first k; leaves = λ o. record { token = token s.joined (pick s.quoted 3 2) (get_or t (at + 1) 0 ∷ run_of no_name (drop (at + 1 + 1) t)); code = code_name s.joined s.quoted _; spelled = λ x. run_bytes no_name t (at + 1) n l first k; inside = run_within no_name t (at + 1) n l first k; is = rw (hd t at 36 h b, hd t (at + 1) (get_or t (at + 1) 0) l refl, ← run_rest no_name t (at + 1) n l first k) (at_name s.quoted o s.joined (get_or t (at + 1) 0) (drop (at + 1 + 1) t) (ne_eqb _ 40 ne) le) } }
     where
       no_name : ℕ → Bool
       no_name c = not (letter c || digit c)
@@ -146,7 +132,7 @@ module _ (t : List ℕ) (at : ℕ) (s : State) (h : at < length t) where
       k = kept_len (λ c. letter c || digit c) (drop (at + 1) t) n (rw q at j)
 
   pub n_arg : get_or t at 0 ≡ 36 → at + 1 < length t → get_or t (at + 1) 0 ≢ 40 → letter (get_or t (at + 1) 0) ≡ false → digit (get_or t (at + 1) 0) || (eqb (get_or t (at + 1) 0) 35 || eqb (get_or t (at + 1) 0) 63) ≡ true → Cuts t at s (record { at = at + 1 + 1; state = record { quoted = s.quoted; joined = true }; token = Some (part (record { kind = Parameter; quoted = s.quoted }) s.joined, record { start = at + 1; len = 1 }) })
-  n_arg b l ne le ar = record { goes = omega arith; within = omega arith; leaves = λ o. record { token = token s.joined (pick s.quoted 3 2) (get_or t (at + 1) 0 ∷ []); code = code_name s.joined s.quoted _; spelled = λ x. rw (hd t (at + 1) (get_or t (at + 1) 0) l refl); inside = omega arith; is = rw (hd t at 36 h b, hd t (at + 1) (get_or t (at + 1) 0) l refl) (at_arg s.quoted o s.joined (get_or t (at + 1) 0) (drop (at + 1 + 1) t) (eqb_no _ 40 ne) le ar) } }
+  n_arg b l ne le ar = record { goes = omega arith; within = omega arith; leaves = λ o. record { token = token s.joined (pick s.quoted 3 2) (get_or t (at + 1) 0 ∷ []); code = code_name s.joined s.quoted _; spelled = λ x. rw (hd t (at + 1) (get_or t (at + 1) 0) l refl); inside = omega arith; is = rw (hd t at 36 h b, hd t (at + 1) (get_or t (at + 1) 0) l refl) (at_arg s.quoted o s.joined (get_or t (at + 1) 0) (drop (at + 1 + 1) t) (ne_eqb _ 40 ne) le ar) } }
 
   pub n_text : (n : ℕ) → s.quoted ≡ true → get_or t at 0 ≢ 34 → get_or t at 0 ≢ 36 → (r : List ℕ) → r ≡ drop at t → n ≡ length (take_while (λ c. not (c == 34 || c == 36)) r) → Cuts t at s (record { at = at + n; state = record { quoted = s.quoted; joined = true }; token = Some (part (record { kind = Literal; quoted = true }) s.joined, record { start = at; len = n }) })
   n_text n y a b r q j = record { goes = omega (arith, run_some ends t at n h first k); within = run_within ends t at n h first k; leaves = λ o. record { token = token s.joined 1 (get_or t at 0 ∷ run_of ends (drop (at + 1) t)); code = code_text s.joined _; spelled = λ x. run_bytes ends t at n h first k; inside = run_within ends t at n h first k; is = rw (y, hd t at (get_or t at 0) h refl, ← run_rest ends t at n h first k) (at_text o s.joined (get_or t at 0) (drop (at + 1) t) first) } }
@@ -155,7 +141,7 @@ module _ (t : List ℕ) (at : ℕ) (s : State) (h : at < length t) where
       ends c = c == 34 || c == 36
 
       first : ends (get_or t at 0) ≡ false
-      first = rw (eqb_no _ 34 a, eqb_no _ 36 b)
+      first = rw (ne_eqb _ 34 a, ne_eqb _ 36 b)
 
       k : n ≡ position_or_len ends (drop at t)
       k = run_len ends (drop at t) n (rw q at j)
@@ -178,7 +164,7 @@ module _ (t : List ℕ) (at : ℕ) (s : State) (h : at < length t) where
   n_sign x nb y e n f = record { goes = omega arith; within = omega arith; leaves = λ o. record { token = sign (get_or t at 0 ∷ []); code = sign_is x ∙ ap sign_code n; spelled = λ x. no_bytes x; inside = omega arith; is = rw (y, nb, hd t at (get_or t at 0) h refl) (sign_scanned s.joined (get_or t at 0) o (drop (at + 1) t) e ∙ once_signed o (get_or t at 0) (drop (at + 1) t) f) } }
 
   pub n_twice : (x : Sign) → bracket_of_sign x ≡ None → s.quoted ≡ false → doubles (get_or t at 0) ≡ true → sign_name x ≡ get_or t at 0 ∷ get_or t at 0 ∷ [] → at + 1 < length t → get_or t (at + 1) 0 ≡ get_or t at 0 → Cuts t at s (record { at = at + 2; state = fresh; token = Some (mark x, record { start = at; len = 0 }) })
-  n_twice x nb y e n l f = record { goes = omega arith; within = omega arith; leaves = λ o. record { token = sign (get_or t at 0 ∷ get_or t at 0 ∷ []); code = sign_is x ∙ ap sign_code n; spelled = λ x. no_bytes x; inside = omega arith; is = rw (y, nb, hd2 t at (get_or t at 0) (get_or t at 0) l refl f) (sign_scanned s.joined (get_or t at 0) o (get_or t at 0 ∷ drop (at + 2) t) e ∙ rw (eqb_yes (get_or t at 0) (get_or t at 0) refl)) } }
+  n_twice x nb y e n l f = record { goes = omega arith; within = omega arith; leaves = λ o. record { token = sign (get_or t at 0 ∷ get_or t at 0 ∷ []); code = sign_is x ∙ ap sign_code n; spelled = λ x. no_bytes x; inside = omega arith; is = rw (y, nb, hd2 t at (get_or t at 0) (get_or t at 0) l refl f) (sign_scanned s.joined (get_or t at 0) o (get_or t at 0 ∷ drop (at + 2) t) e ∙ rw (eq-eqb (get_or t at 0) (get_or t at 0) refl)) } }
 
   pub n_open : s.quoted ≡ false → get_or t at 0 ≡ 40 → Cuts t at s (record { at = at + 1; state = fresh; token = Some (mark OpenParen, record { start = at; len = 0 }) })
   n_open y e = record { goes = omega arith; within = omega arith; leaves = λ o. record { token = sign (40 ∷ []); code = sign_is OpenParen; spelled = λ x. no_bytes x; inside = omega arith; is = rw (y, hd t at 40 h e) } }
@@ -205,7 +191,14 @@ module _ (t : List ℕ) (at : ℕ) (s : State) (h : at < length t) where
   n_word x n y p w k e nb = record { goes = omega (arith, run_some ends_word t at n h p k); within = run_within ends_word t at n h p k; leaves = λ o. record { token = token s.joined 0 (get_or t at 0 ∷ run_of ends_word (drop (at + 1) t)); code = e ∙ ap (token_code_of s.joined 0) (run_bytes ends_word t at n h p k); spelled = λ x. run_bytes ends_word t at n h p k; inside = run_within ends_word t at n h p k; is = rw (y, nb, hd t at (get_or t at 0) h refl, ← run_rest ends_word t at n h p k) (at_word o s.joined (get_or t at 0) (drop (at + 1) t) p w) } }
 
   pub word_joined : (n : ℕ) → s.quoted ≡ false → s.joined ≡ true → ends_word (get_or t at 0) ≡ false → (r : List ℕ) → r ≡ drop at t → n ≡ length (take_while (λ c. not (ends_word c)) r) → Cuts t at s (record { at = at + n; state = record { quoted = s.quoted; joined = true }; token = Some (part (record { kind = Literal; quoted = false }) s.joined, record { start = at; len = n }) })
-  word_joined n y b p r q j = n_word (part (record { kind = Literal; quoted = false }) s.joined) n y p (rw b (and_not (eqb (get_or t at 0) 35))) (run_len ends_word (drop at t) n (rw q at j)) (rw b) refl
+  word_joined n y b p r q j = n_word (part (record { kind = Literal; quoted = false }) s.joined) n y p (rw b (and_right (eqb (get_or t at 0) 35) (not true) refl)) (run_len ends_word (drop at t) n (rw q at j)) (rw b) refl
 
   pub word_bare : (x : Value) (n : ℕ) → s.quoted ≡ false → s.joined ≡ false → get_or t at 0 ≢ 35 → ends_word (get_or t at 0) ≡ false → (r : List ℕ) → r ≡ drop at t → n ≡ length (take_while (λ c. not (ends_word c)) r) → code_of x ≡ bare_code (take n r) → bracket_of x ≡ None → Cuts t at s (record { at = at + n; state = record { quoted = s.quoted; joined = true }; token = Some (x, record { start = at; len = n }) })
-  word_bare x n y b f p r q j e nb = n_word x n y p (rw (eqb_no (get_or t at 0) 35 f)) (run_len ends_word (drop at t) n (rw q at j)) (e ∙ rw (q, b)) nb
+  word_bare x n y b f p r q j e nb = n_word x n y p (rw (ne_eqb (get_or t at 0) 35 f)) (run_len ends_word (drop at t) n (rw q at j)) (e ∙ rw (q, b)) nb
+
+-- names that the reader's proofs use
+pub eqb_no : (m n : ℕ) → m ≢ n → eqb m n ≡ false
+eqb_no m n h = ne_eqb m n h
+
+pub eqb_yes : (m n : ℕ) → m ≡ n → eqb m n ≡ true
+eqb_yes m n h = eq-eqb m n h

@@ -1,29 +1,25 @@
 -- Runs of bytes, and what bare words are.
-use Rattle.std.proofs.Common.{◌≡◌, ℕ, suc, ◌+◌, ◌<◌, ◌≤◌, Bool, true, false, not, ◌&&◌, ◌||◌, ◌==◌, T, cond, eqb, ltb, leb, List, [], ◌∷◌, ◌++◌, length, get_or, map, take, drop, unwrap_or, Decides, Some, None, MatchOption, position, sym, refl, ap, ◌∙◌, subst, arith, le→leb, leb→le, ltb→lt, rules}
+use Rattle.std.proofs.Common.{◌≡◌, ℕ, suc, ◌+◌, ◌<◌, ◌≤◌, Bool, true, false, not, ◌&&◌, ◌||◌, ◌==◌, cond, eqb, ltb, leb, List, [], ◌∷◌, ◌++◌, length, get_or, map, take, drop, unwrap_or, Decides, Some, None, MatchOption, position, sym, refl, ap, ◌∙◌, subst, arith, rules}
 use mathlib.Core.Option.{some, none}
-use lib.Dec.{nleb→lt}
 use Rattle.std.specs.declared.option.Option.{Option}
 use Rattle.std.specs.List.{find, list_all, position_or_len, prefix_len, take_while}
 use Rattle.std.proofs.lemmas.List.{append-nil, append_assoc, drop_more, drop-drop, length-drop, length-take-le}
 use Rattle.std.proofs.lemmas.List.Sums.{prefix_len-le-length}
 use Rattle.std.proofs.lemmas.List.Folds.{length-prefix_len}
+use Rattle.std.proofs.lemmas.Bool.{and_parts, le-leb, leb-true, lt-leb, ltb-false}
+use Rattle.std.proofs.lemmas.Bool.Decides.{same_from_decides}
 use Rattle.std.proofs.lemmas.Slice.Eq.{compares_Decides}
 use Rattle.syntax.specs.Base.{pick, same, letter, digit, name_bytes, valid_name}
-use Rattle.grammar.specs.Grammar.{split_equals, reserved}
+use Rattle.grammar.specs.Grammar.{split_equals}
 use Rattle.grammar.proofs.Fit.{by_bool}
 use Rattle.lexer.specs.declared.token.Keyword.{Keyword}
-use Rattle.lexer.specs.Codes.{all_keywords, keyword_code, keyword_name}
+use Rattle.lexer.specs.declared.token.TheConstants.Keyword.{ALL as all_keywords}
+use Rattle.lexer.specs.Codes.{keyword_code, keyword_name}
 use Rattle.lexer.specs.Stored.{index_of, keyword_index, bare_code}
 use Rattle.lexer.proofs.Lex.{run_of, after}
 
-two_ways : {P : Type 0} (r s : Bool) → Decides r P → Decides s P → r ≡ s
-two_ways true true h k = refl
-two_ways true false h k = sym (k.1 (h.0 refl))
-two_ways false true h k = h.1 (k.0 refl)
-two_ways false false h k = refl
-
 pub decides_same : (xs ys : List ℕ) (r : Bool) → Decides r (xs ≡ ys) → r ≡ same xs ys
-decides_same xs ys r h = two_ways r (same xs ys) h (compares_Decides same (search rules) xs ys)
+decides_same xs ys r h = same_from_decides r (same xs ys) h (compares_Decides same (search rules) xs ys)
 
 one_more : (n : ℕ) → 1 + n ≡ suc n
 one_more n = omega arith
@@ -37,23 +33,11 @@ pub after_is : (f : ℕ → Bool) (xs : List ℕ) → after f xs ≡ drop (posit
 after_is f [] = refl
 after_is f (c ∷ cs) = by_bool (λ b. pick b (c ∷ cs) (after f cs) ≡ drop (cond (not b) (1 + position_or_len f cs) 0) (c ∷ cs)) (f c) (λ e. refl) (λ e. rw (one_more (position_or_len f cs), after_is f cs))
 
-pub leb_no : (m n : ℕ) → n < m → leb m n ≡ false
-leb_no m n h = by_bool (λ b. leb m n ≡ b → b ≡ false) (leb m n) (λ e f. absurd (omega (arith, leb→le m n (subst T (sym e) tt)))) (λ e f. refl) refl
-
-pub leb_yes : (m n : ℕ) → m ≤ n → leb m n ≡ true
-leb_yes m n h = by_bool (λ b. T b → b ≡ true) (leb m n) (λ e f. refl) (λ e f. absurd f) (le→leb m n h)
-
-pub not_le : (m n : ℕ) → leb m n ≡ false → n < m
-not_le m n e = nleb→lt m n (subst (λ b. T (not b)) (sym e) tt)
-
 pub name_bytes_is : (cs : List ℕ) → name_bytes cs ≡ list_all (λ c. letter c || digit c) cs
 name_bytes_is [] = refl
 name_bytes_is (c ∷ cs) = ap (λ b. (letter c || digit c) && b) (name_bytes_is cs)
 
 -- where a byte is found, and what it means that there is none
-ltb_yes : (m n : ℕ) → ltb m n ≡ true → m < n
-ltb_yes m n e = ltb→lt m n (subst T (sym e) tt)
-
 pub found : (f : ℕ → Bool) (xs : List ℕ) (n : ℕ) → Some n ≡ position f xs → (n ≡ position_or_len f xs) × (n < length xs)
 found f xs n e = by_bool (λ b. ltb (position_or_len f xs) (length xs) ≡ b → Some n ≡ cond b (Some (position_or_len f xs)) None → (n ≡ position_or_len f xs) × (n < length xs)) (ltb (position_or_len f xs) (length xs)) (λ b x y. search rules) (λ b x y. search rules) refl e
 
@@ -69,24 +53,20 @@ cut_none : (xs acc : List ℕ) → length xs ≤ position_or_len (λ c. c == 61)
 cut_none [] acc h = refl
 cut_none (c ∷ cs) acc h = by_bool (λ b. suc (length cs) ≤ cond (not b) (1 + position_or_len (λ c. c == 61) cs) 0 → pick b (some (record { before = acc; behind = cs })) (split_equals cs (acc ++ (c ∷ []))) ≡ none) (eqb c 61) (λ e k. absurd (omega arith)) (λ e k. cut_none cs (acc ++ (c ∷ [])) (omega arith)) h
 
-and_right : (a b : Bool) → a && b ≡ true → b ≡ true
-and_right true b e = e
-and_right false b e = absurd (subst (λ x. T (not x)) e tt)
-
 pub name_short : (b : List ℕ) → valid_name b ≡ true → length b ≤ 32
 name_short [] e = omega arith
-name_short (c ∷ cs) e = omega (arith, leb→le (length cs) 31 (subst T (sym (and_right (name_bytes cs) _ (and_right (letter c) _ e))) tt))
+name_short (c ∷ cs) e = omega (arith, leb-true (length cs) 31 (and_parts (name_bytes cs) _ (and_parts (letter c) _ e).1).1)
 
--- codes that count up from n
-abbrev Counts : List Keyword → ℕ → Type 0
-Counts [] n = Unit {0}
-Counts (k ∷ ks) n = (keyword_code k ≡ n) × Counts ks (suc n)
+-- the numbers that f gives count up from n
+abbrev pub Counts : {A : Type 0} → (A → ℕ) → List A → ℕ → Type 0
+Counts f [] n = Unit {0}
+Counts f (x ∷ xs) n = (f x ≡ n) × Counts f xs (suc n)
 
 abbrev At : List ℕ → List Keyword → ℕ → Option Keyword → Type 0
 At b ks n o = MatchOption o (index_of b (map keyword_name ks) ≡ length ks) (λ k. (keyword_code k ≡ n + index_of b (map keyword_name ks)) × (index_of b (map keyword_name ks) < length ks))
 
 -- where a keyword stands among keywords whose codes count up says its code
-place : (b : List ℕ) (ks : List Keyword) (n : ℕ) → Counts ks n → At b ks n (find (λ k. same b (keyword_name k)) ks)
+place : (b : List ℕ) (ks : List Keyword) (n : ℕ) → Counts keyword_code ks n → At b ks n (find (λ k. same b (keyword_name k)) ks)
 place b [] n h = refl
 place b (k ∷ ks) n h = by_bool (λ s. MatchOption (cond s (Some k) (find (λ x. same b (keyword_name x)) ks)) (pick s 0 (suc (index_of b (map keyword_name ks))) ≡ suc (length ks)) (λ x. (keyword_code x ≡ n + pick s 0 (suc (index_of b (map keyword_name ks)))) × (pick s 0 (suc (index_of b (map keyword_name ks))) < suc (length ks)))) (same b (keyword_name k)) (λ e. (omega (arith, h.0), omega arith)) (λ e. behind_one (find (λ x. same b (keyword_name x)) ks) (place b ks (suc n) h.1))
   where
@@ -98,7 +78,7 @@ place b (k ∷ ks) n h = by_bool (λ s. MatchOption (cond s (Some k) (find (λ x
 module _ (b : List ℕ) where
   pub key_code : keyword_index b < 16 → 16 + keyword_index b ≡ bare_code b
   unfolding bare_code
-  key_code h = rw (leb_no 16 (keyword_index b) h)
+  key_code h = rw (lt-leb 16 (keyword_index b) h)
 
   pub keyword_is : (k : Keyword) → Some k ≡ find (λ k. same b (keyword_name k)) all_keywords → keyword_code k ≡ bare_code b
   unfolding keyword_index
@@ -110,24 +90,21 @@ module _ (b : List ℕ) where
 
   pub assignment_is : (n : ℕ) → 16 ≤ keyword_index b → Some n ≡ position (λ c. c == 61) b → valid_name (take n b) ≡ true → 64 + n ≡ bare_code b
   unfolding bare_code
-  assignment_is n h k v = let q = found (λ c. c == 61) b n k in rw (leb_yes 16 (keyword_index b) h, cut_some b [] (omega arith), ← q.0, v, length-take-le n b (omega arith))
+  assignment_is n h k v = let q = found (λ c. c == 61) b n k in rw (le-leb 16 (keyword_index b) h, cut_some b [] (omega arith), ← q.0, v, length-take-le n b (omega arith))
 
   pub name_before : (n : ℕ) → Some n ≡ position (λ c. c == 61) b → valid_name (take n b) ≡ true → n ≤ 32
   name_before n k v = omega (arith, name_short (take n b) v, length-take-le n b (omega (arith, (found (λ c. c == 61) b n k).1)))
 
   pub plain_is : (n : ℕ) → 16 ≤ keyword_index b → Some n ≡ position (λ c. c == 61) b → valid_name (take n b) ≡ false → pick (valid_name b) 46 0 ≡ bare_code b
   unfolding bare_code
-  plain_is n h k v = let q = found (λ c. c == 61) b n k in rw (leb_yes 16 (keyword_index b) h, cut_some b [] (omega arith), ← q.0, v)
+  plain_is n h k v = let q = found (λ c. c == 61) b n k in rw (le-leb 16 (keyword_index b) h, cut_some b [] (omega arith), ← q.0, v)
 
   pub plain_without : 16 ≤ keyword_index b → None ≡ position (λ c. c == 61) b → pick (valid_name b) 46 0 ≡ bare_code b
   unfolding bare_code
-  plain_without h k = rw (leb_yes 16 (keyword_index b) h, cut_none b [] (missing (λ c. c == 61) b k))
+  plain_without h k = rw (le-leb 16 (keyword_index b) h, cut_none b [] (missing (λ c. c == 61) b k))
 
 pub first_or_end : (f : ℕ → Bool) (xs : List ℕ) → unwrap_or (position f xs) (length xs) ≡ position_or_len f xs
-first_or_end f xs = by_bool (λ b. ltb (position_or_len f xs) (length xs) ≡ b → unwrap_or (cond b (Some (position_or_len f xs)) None) (length xs) ≡ position_or_len f xs) (ltb (position_or_len f xs) (length xs)) (λ b x. refl) (λ b x. omega (arith, prefix_len-le-length (λ c. not (f c)) xs, not_ltb (position_or_len f xs) (length xs) x)) refl
-  where
-    not_ltb : (m n : ℕ) → ltb m n ≡ false → n ≤ m
-    not_ltb m n e = search rules
+first_or_end f xs = by_bool (λ b. ltb (position_or_len f xs) (length xs) ≡ b → unwrap_or (cond b (Some (position_or_len f xs)) None) (length xs) ≡ position_or_len f xs) (ltb (position_or_len f xs) (length xs)) (λ b x. refl) (λ b x. omega (arith, prefix_len-le-length (λ c. not (f c)) xs, ltb-false (position_or_len f xs) (length xs) x)) refl
 
 -- a run of bytes from i on whose first byte is one of it
 module _ (f : ℕ → Bool) (t : List ℕ) (i n : ℕ) (h : i < length t) (e : f (get_or t i 0) ≡ false) (k : n ≡ position_or_len f (drop i t)) where
@@ -160,3 +137,10 @@ not_not false = refl
 
 pub kept_len : (p : ℕ → Bool) (xs : List ℕ) (n : ℕ) → n ≡ length (take_while p xs) → n ≡ position_or_len (λ c. not (p c)) xs
 kept_len p xs n e = e ∙ (length-prefix_len p xs ∙ prefix_same p (λ c. not (not (p c))) (λ c. not_not (p c)) xs)
+
+-- names that the reader's proofs use
+pub leb_no : (m n : ℕ) → n < m → leb m n ≡ false
+leb_no m n h = lt-leb m n h
+
+pub leb_yes : (m n : ℕ) → m ≤ n → leb m n ≡ true
+leb_yes m n h = le-leb m n h

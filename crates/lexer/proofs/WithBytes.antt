@@ -10,7 +10,7 @@ use Rattle.lexer.specs.declared.token.Bracket.TheVariants.{Opens}
 use Rattle.lexer.specs.declared.token.Token.{Token as Value}
 use Rattle.lexer.specs.Codes.{code_of, has_bytes, bracket_of, Fits}
 use Rattle.lexer.specs.Stored.{index_of, sign_names, sign_code, keyword_index, bare_code, assignment_code, token_code, token_code_of}
-use Rattle.lexer.proofs.Runs.{leb_no, leb_yes, not_le}
+use Rattle.std.proofs.lemmas.Bool.{le-leb, leb-false, lt-leb}
 
 pub index_le : (b : Name) (ks : List Name) → index_of b ks ≤ length ks
 index_le b [] = omega arith
@@ -24,13 +24,13 @@ value_kept : (x : Value) → has_bytes x ≡ kept (code_of x)
 value_kept x = search rules
 
 kept_above : (k : ℕ) → 46 ≤ k → kept k ≡ true
-kept_above k l = rw (leb_yes 46 k l)
+kept_above k l = rw (le-leb 46 k l)
 
 kept_between : (k : ℕ) → 16 ≤ k → k < 32 → kept k ≡ true
-kept_between k l h = rw (leb_no 46 k (omega arith), leb_no 32 k h, leb_yes 16 k l)
+kept_between k l h = rw (lt-leb 46 k (omega arith), lt-leb 32 k h, le-leb 16 k l)
 
 kept_sign : (k : ℕ) → 32 ≤ k → k < 46 → kept k ≡ false
-kept_sign k l h = rw (leb_no 46 k h, leb_yes 32 k l)
+kept_sign k l h = rw (lt-leb 46 k h, le-leb 32 k l)
 
 assignment_kept : (o : Option Split) (d : ℕ) → kept d ≡ true → kept (assignment_code o d) ≡ true
 assignment_kept none d h = h
@@ -42,7 +42,7 @@ literal_kept false = refl
 
 bare_kept : (b : Name) → kept (bare_code b) ≡ true
 unfolding bare_code keyword_index
-bare_kept b = by_bool (λ x. leb 16 (index_of b reserved) ≡ x → kept (pick x (assignment_code (split_equals b []) (pick (valid_name b) 46 0)) (16 + index_of b reserved)) ≡ true) (leb 16 (index_of b reserved)) (λ x e. assignment_kept (split_equals b []) _ (literal_kept (valid_name b))) (λ x e. kept_between (16 + index_of b reserved) (omega arith) (omega (arith, not_le 16 (index_of b reserved) e))) refl
+bare_kept b = by_bool (λ x. leb 16 (index_of b reserved) ≡ x → kept (pick x (assignment_code (split_equals b []) (pick (valid_name b) 46 0)) (16 + index_of b reserved)) ≡ true) (leb 16 (index_of b reserved)) (λ x e. assignment_kept (split_equals b []) _ (literal_kept (valid_name b))) (λ x e. kept_between (16 + index_of b reserved) (omega arith) (omega (arith, leb-false 16 (index_of b reserved) e))) refl
 
 sign_kept : (b : Name) → kept (sign_code b) ≡ false
 unfolding sign_code
@@ -71,15 +71,15 @@ code_kept true (suc (suc (suc (suc zero)))) b = refl
 code_kept false (suc (suc (suc (suc zero)))) b = sign_kept b
 code_kept g (suc (suc (suc (suc (suc zero))))) b = run_kept g false b
 code_kept g (suc (suc (suc (suc (suc (suc zero)))))) b = run_kept g true b
-code_kept true (suc (suc (suc (suc (suc (suc (suc k))))))) b = sym (leb_no (suc (suc (suc (suc (suc (suc (suc k))))))) 3 (omega arith))
-code_kept false (suc (suc (suc (suc (suc (suc (suc k))))))) b = sym (leb_no (suc (suc (suc (suc (suc (suc (suc k))))))) 3 (omega arith))
+code_kept true (suc (suc (suc (suc (suc (suc (suc k))))))) b = sym (lt-leb (suc (suc (suc (suc (suc (suc (suc k))))))) 3 (omega arith))
+code_kept false (suc (suc (suc (suc (suc (suc (suc k))))))) b = sym (lt-leb (suc (suc (suc (suc (suc (suc (suc k))))))) 3 (omega arith))
 
 -- a value with a token's code says whether the token has bytes
 pub bytes_kind : (x : Value) (p : Token) → code_of x ≡ token_code p → has_bytes x ≡ leb p.kind 3
 bytes_kind x p e = value_kept x ∙ (ap kept e ∙ code_kept p.joined p.kind p.bytes)
 
 pub big_kind : {A : Type 0} (x : Value) (p : Token) → code_of x ≡ token_code p → has_bytes x ≡ false → p.kind ≤ 3 → A
-big_kind x p e b k = absurd (omega (arith, k, not_le p.kind 3 (sym (bytes_kind x p e) ∙ b)))
+big_kind x p e b k = absurd (omega (arith, k, leb-false p.kind 3 (sym (bytes_kind x p e) ∙ b)))
 
 -- a bracket has none
 pub bracket_bytes : (x : Value) (b : Bracket) → bracket_of x ≡ Some b → has_bytes x ≡ false

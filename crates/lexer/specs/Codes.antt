@@ -154,9 +154,6 @@ has_bytes (assignment n) = true
 has_bytes (sign s) = false
 has_bytes unclosed = false
 
-abbrev pub all_keywords : List Keyword
-all_keywords = When ∷ If ∷ Then ∷ Elif ∷ Else ∷ Fi ∷ While ∷ Do ∷ Done ∷ For ∷ In ∷ Case ∷ Esac ∷ OpenBrace ∷ CloseBrace ∷ Not ∷ []
-
 -- whether a sign, and a token, opens a bracket or closes one
 abbrev pub bracket_of_sign : Sign → Option Bracket
 bracket_of_sign Semicolon = None

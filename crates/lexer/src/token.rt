@@ -2,7 +2,7 @@
 ghost use Rattle.std.specs.Prelude.{◌≡◌, None, find};
 ghost use Rattle.syntax.specs.Base.{same};
 ghost use Rattle.lexer.specs.Stored.{bare_code};
-ghost use Rattle.lexer.specs.Codes.{all_keywords, bracket_of, code_of, has_bytes, is_joined, keyword_name, part_of, sign_name};
+ghost use Rattle.lexer.specs.Codes.{bracket_of, code_of, has_bytes, is_joined, keyword_name, part_of, sign_name};
 
 use crate::bytes::{find, is_name};
 
@@ -109,7 +109,7 @@ impl Keyword {
 
     /// The keyword that a word is.
     pub(crate) fn from_spelling(word: &[u8]) -> Option<Keyword>
-        ensures { result ≡ find (λ k. same word.now (keyword_name k)) all_keywords }
+        ensures { result ≡ find (λ k. same word.now (keyword_name k)) Keyword.ALL }
     {
         Keyword::ALL
             .iter()

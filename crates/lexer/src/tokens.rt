@@ -39,7 +39,8 @@ pub fn tokenize<'a>(text: &'a [u8], words: &'a mut [u32]) -> Tokens<'a>
 impl Tokens<'_> {
     /// How many tokens the text has.
     pub fn len(&self) -> usize
-        ensures { result ≡ length (tokens_of self.now.text.now) }
+        ensures count { result ≡ length (tokens_of self.now.text.now) }
+        ensures few { result ≤ length self.now.text.now + 1 }
     {
         self.count
     }
