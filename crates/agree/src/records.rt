@@ -192,6 +192,7 @@ impl Draft {
             Line::Name(name) => *self = Draft::new(self.heap, String::from_str(self.heap, name)?),
             Line::Times(rest) => {
                 let (times, piece) = leading_number(rest)?;
+                // A count, and no index.
                 for _ in 0..times {
                     self.add(piece)?;
                 }

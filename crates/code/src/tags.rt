@@ -57,6 +57,8 @@ impl PartTag {
 #[derive(Clone, Copy, Debug, PartialEq, Eq)]
 pub struct UnknownTag(pub u32);
 
+// Here a number becomes a tag, and back: the numbers are the layout of the code.
+
 impl From<CommandTag> for u32 {
     ghost from_gives = { IsCommandNumber };
 

@@ -228,6 +228,7 @@ impl<'t> Runner<'t> {
         Ok(step)
     }
 
+    /// One arm for each builtin at work.
     fn progress(
         &mut self,
         process: &mut Process<'t>,

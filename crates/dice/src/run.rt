@@ -29,6 +29,7 @@ pub struct Report {
 fn make_moves(runner: &mut Runner<'_>, dice: &mut Dice, most: u64) -> Result<u64, AllocError>
     ensures { IfOk result (λ n. n ≤ most) }
 {
+    // Counts the moves.
     for n in 0..most {
         if runner.processes.is_empty() || runner.move_one(dice)? == Turn::Stuck {
             return Ok(n);

@@ -20,6 +20,7 @@ pub struct Runner<'t> {
 }
 
 /// Reading a byte: a byte; there are no more; there may be more later.
+/// Three answers that lead to three different moves, and none of them is an error.
 #[derive(Clone, Copy)]
 pub enum ReadByte {
     Got(u8),
@@ -122,6 +123,7 @@ impl<'t> Runner<'t> {
     }
 
     /// Takes the process at this place out of it.
+    /// It is looked up: that those who wait keep their places would be owed by every step otherwise.
     fn take_out(&mut self, i: usize) -> Option<Process<'t>> {
         self.processes.get_mut(i)?.take()
     }

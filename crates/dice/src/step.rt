@@ -418,6 +418,7 @@ impl<'t> Runner<'t> {
     }
 
     /// All words are expanded: what they are for.
+    /// One arm for each purpose: what a process keeps is data, which others look into, and no code.
     fn expanded(
         &mut self,
         process: &mut Process<'t>,
@@ -574,6 +575,7 @@ impl<'t> Runner<'t> {
 
     /// The step of a process, if it can take one now. Its control is taken apart: what a cat reads is its input or a
     /// file, so that nobody's pipe seems closed by that.
+    /// One arm for each control, as in `expanded`.
     pub fn step(
         &mut self,
         process: &mut Process<'t>,

@@ -73,6 +73,7 @@ impl Streams {
 pub struct EmptyPipe(pub PipeId);
 
 /// Writing a byte: it is written; the pipe is full; nobody can read the pipe any more.
+/// Three answers that lead to three different moves, and none of them is an error.
 #[derive(Clone, Copy)]
 pub enum WriteByte {
     Wrote,

@@ -178,6 +178,7 @@ fn compare_numbers(a: &[u8], b: &[u8]) -> Option<Ordering> {
 }
 
 /// a = b and a != b compare bytes, a -lt b and a -eq b numbers.
+/// A match on the bytes: the operators have nothing in common but a status.
 fn test_words(a: &[u8], operator: &[u8], b: &[u8]) -> u32 {
     match operator {
         b"=" => status_of(a == b),

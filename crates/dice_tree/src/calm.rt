@@ -1,5 +1,7 @@
 //! Whether a text is calm: whether every order of its moves that ends gives the same paper.
 
+// The walks are `for` loops, and apart from those of `stage`: see there.
+
 use crate::tree::{
     AndOr, Arm, Assignment, Command, Compound, Item, Pipeline, Redirect, RedirectKind, Word,
     WordPart,

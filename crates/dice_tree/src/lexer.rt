@@ -258,6 +258,7 @@ impl<'t> Lexer<'t> {
     }
 
     /// One byte.
+    // The lexer goes by what has begun: a match over its state, no table of steps.
     fn scan_byte(&mut self, c: u8, at: usize) -> Result<(), Fault> {
         let Some(Begun { what, start }) = self.begun else {
             return self.scan_fresh(c, at);

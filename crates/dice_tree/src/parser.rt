@@ -69,6 +69,7 @@ fn first_word_fits(word: &Word) -> bool {
 }
 
 /// A sign that begins a redirection.
+// An Option, and no TryFrom: nobody would read its error.
 fn redirect_kind(sign: Sign) -> Option<RedirectKind> {
     match sign {
         Sign::Less => Some(RedirectKind::Input),
@@ -643,6 +644,7 @@ impl<'t> Parser<'t> {
     }
 
     /// A command that begins with a reserved word or (.
+    // One arm for each form; `left` is a parameter here as everywhere, since each way out of `list` would have to set a field back.
     #[cycle(parsing)]
     fn compound(&mut self, left: u32) -> Result<Compound, Fault>
         ensures { OnOk result (self.new ≤ self.old) }

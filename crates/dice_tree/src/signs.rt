@@ -133,6 +133,7 @@ impl TryFrom<u8> for Sign {
 
 impl Sign {
     /// The sign that its byte is if it comes twice.
+    // An Option, as not every byte is a sign twice.
     pub fn twice(self) -> Option<Sign> {
         match self {
             Sign::Semicolon => Some(Sign::DoubleSemicolon),

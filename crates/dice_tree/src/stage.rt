@@ -2,6 +2,9 @@
 
 ghost use Rattle.std.specs.Prelude.{◌≡◌, ◌≤◌, length};
 
+// The walks here and in `calm` are `for` loops: a closure that leads back into its walk owes at each turn that it may be called.
+// They are two, since they carry other things down and stop at other places.
+
 use crate::calm::has_wildcard;
 use crate::tree::{
     AndOr, Arm, Assignment, Command, Compound, Item, Pipeline, Redirect, Word, WordPart,
@@ -101,6 +104,7 @@ fn arms_stage(arms: &[Arm]) -> Stage {
     most
 }
 
+// One arm for each form.
 #[cycle(stage)]
 fn compound_stage(compound: &Compound) -> Stage {
     match compound {

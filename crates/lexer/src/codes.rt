@@ -19,6 +19,8 @@ impl fmt::Display for UnknownCode {
 
 impl Error for UnknownCode {}
 
+// The numbers stand in lent words; they are known here alone.
+
 /// The code of a quote that is not closed.
 const UNCLOSED: u32 = 45;
 

@@ -20,6 +20,7 @@ pub fn write_tokens(text: &[u8], words: &mut [u32]) -> usize
     let mut state = State::FRESH;
     let mut innermost = 0;
     let mut count = 0;
+    // A turn goes on by as many bytes as it cut.
     while at < text.len() {
         let cut = Lexer { text, at, state }.cut();
         at = cut.at;

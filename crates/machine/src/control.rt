@@ -6,6 +6,7 @@ use crate::frames::Frame;
 use crate::process::{Control, Expansion, Process, Unwind};
 use code::{Code, Command};
 
+// One word of a cell is read: the frame tells which command stands there.
 // Where a loop's condition stands in its cell.
 const CONDITION: usize = 2;
 
@@ -188,6 +189,7 @@ fn if_status(code: Code<'_>, process: Process, a: u32, n: u32) -> Resumed
 }
 
 /// A command is done with status n, which is the last status of the process already; `frame` is its last frame.
+// One arm for each frame.
 pub fn next_status(code: Code<'_>, process: Process, frame: Frame, n: u32) -> Resumed
     ensures { result ≡ status_next code.entry.words.now process frame n }
 {

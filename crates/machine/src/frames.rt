@@ -8,6 +8,7 @@ use crate::process::Process;
 use store::{Refusal, Store};
 use words::extend;
 
+// The numbers stand in lent words; the two conversions alone know them.
 // Tags of frames.
 const LIST: u32 = 1;
 

@@ -51,6 +51,7 @@ pub fn run_stretch(
 {
     let mut process = process;
     let mut place = place;
+    // Counts the moves.
     for moves in 0..most {
         let step = match take_step(code, st, paper, place, process) {
             Ok(step) => step,

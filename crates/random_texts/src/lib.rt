@@ -308,6 +308,7 @@ impl Generator {
     }
 
     /// A template of this kind. A calm text has no & behind a command.
+    /// One arm for each kind: their tables have different types of choice.
     fn template(&mut self, kind: Kind) -> &'static str {
         match kind {
             Kind::List => self.choose(LISTS),
@@ -365,6 +366,7 @@ pub fn random_text(heap: Global, seed: u64) -> Result<Vec<u8>, AllocError>
         text: Vec::new(heap),
     };
     generator.push_template("@L@L")?;
+    // The budget is a count.
     for _ in 0..STEPS {
         let Some(byte) = generator.rest.pop() else {
             break;

@@ -27,6 +27,7 @@ pub struct Parser<'t> {
 
 /// Where reading and writing stand: the next token, the words for the code with the first that is free, and the highest
 /// stage so far.
+/// No ghost field stands beside a `&mut`, so each call that takes it says which words stay.
 #[derive(Drop)]
 pub struct Cursor<'c> {
     pub code: &'c mut [u32],

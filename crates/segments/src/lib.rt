@@ -244,6 +244,7 @@ impl Segments<'_> {
         ensures rooms { (k : ℕ) → k < length self.old.segments → (nth self.new k).room ≡ length (nth self.old k).words + length (nth self.old k).words / 4 }
     {
         let mut at = to;
+        // By number: the entries lie in lent words. So in `first_unused` and `used_front`.
         for k in 0..self.count() {
             let len = self.len(k);
             let room = len + len / 4;

@@ -2,6 +2,8 @@
 ghost use Rattle.std.specs.Prelude.{◌≡◌, ℕ, ◌+◌, ◌<◌, ◌≤◌, ◌⊎◌, List, [], ◌∷◌, length, take, drop};
 ghost use Rattle.segments.specs.Words.{at64, put64, Written};
 
+// Two words of a lent slice have no type of their own.
+
 /// The number in the words at k.
 pub fn wide(t: &[u32], k: usize) -> usize
     requires { k + 1 < length t.now }

@@ -368,6 +368,7 @@ impl Store<'_> {
         if k > self.spare() / 8 {
             return None;
         }
+        // A count, and no index.
         for _j in 0..k {
             self.enlarge();
         }
@@ -459,6 +460,7 @@ impl Store<'_> {
         if i > from {
             return None;
         }
+        // By number, the last first: lists have numbers alone.
         for q in (0..k).rev() {
             let _ = self.remove(i + q);
         }

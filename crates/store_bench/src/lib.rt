@@ -6,6 +6,7 @@ ghost use Rattle.std.specs.Prelude.{◌≡◌};
 use store::{Store, store_in};
 
 fn open_lists(st: &mut Store, lists: usize) {
+    // A count, and no index.
     for _k in 0..lists {
         let _ = st.fresh();
     }
@@ -26,6 +27,7 @@ fn grow(st: &mut Store, lists: usize, count: u32) -> u32 {
 }
 
 fn shrink(st: &mut Store, lists: usize, size: usize) {
+    // By number: lists have numbers alone.
     for i in 0..lists {
         st.truncate(i, size);
     }

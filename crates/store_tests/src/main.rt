@@ -108,6 +108,7 @@ fn shorten(m: &mut Mirror, st: &mut Store) {
 
 /// Fills and empties by turns.
 fn run(m: &mut Mirror, st: &mut Store, rounds: u32) -> Result<(), AllocError> {
+    // Counts, and no index.
     for _k in 0..rounds {
         let up = m.pick(60);
         let down = m.pick(24);

@@ -88,6 +88,7 @@ impl Mirror {
 
     fn total(&self) -> usize {
         let mut total: usize = 0;
+        // By number, as the lists of the store have numbers alone; so below.
         for i in 0..LISTS {
             total = total.wrapping_add(self.len(i));
         }

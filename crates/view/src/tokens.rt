@@ -26,6 +26,7 @@ impl fmt::Display for Kind {
     }
 }
 
+// A match: a trait of another crate cannot be given to a type of a third.
 fn part_name(part: PartTag) -> &'static str {
     match (part.kind, part.quoted) {
         (PartKind::Literal, false) => "literal",

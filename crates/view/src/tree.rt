@@ -30,6 +30,7 @@ struct Level<'a> {
 
 impl Level<'_> {
     fn start(self) -> io::Result<()> {
+        // A count, and no index.
         for _ in 0..self.indent {
             print!(self.rt; "  ")?;
         }
@@ -101,6 +102,7 @@ impl Level<'_> {
         Ok(())
     }
 
+    // One arm for each form.
     #[cycle(showing)]
     fn command(self, at: u32) -> io::Result<()> {
         let Some(command) = self.code.command(at) else {

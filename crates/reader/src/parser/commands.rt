@@ -14,6 +14,7 @@ use code::CommandTag;
 use lexer::{Keyword, PartTag, Sign, Token};
 
 /// Whether a token may name a variable.
+// Three cases; one pattern with guards is no plainer. So are `is_bare` and `may_be_first`.
 fn is_name(token: Option<Token>) -> bool
     ensures { result ≡ names (next_code token) }
 {
@@ -61,6 +62,7 @@ impl Parser<'_> {
     }
 
     /// A command, by what stands ahead.
+    /// One arm for each form of command.
     #[cycle(parsing)]
     pub fn command(&self, cursor: &mut Cursor<'_>) -> Result<(), Stop>
         requires { Room self.now cursor.old 15 }
@@ -269,6 +271,7 @@ impl Parser<'_> {
         ensures no_arms { OnErr result (parse_arms (level self.now.left) (ahead self.now cursor.old) ≡ none) }
     {
         let mut open = link;
+        // Two ways to go on.
         'arms: loop {
             if self.next_is(cursor, Token::Sign(Sign::Newline)) {
                 cursor.at += 1;

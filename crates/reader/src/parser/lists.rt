@@ -81,6 +81,7 @@ impl Parser<'_> {
         ensures no_pipeline { OnErr result (parse_pipeline (level self.now.left) (ahead self.now cursor.old) ≡ none) }
     {
         let mut open = link;
+        // The test stands in the middle.
         'commands: loop {
             let cell = cursor.free;
             cursor.code[open] = cell as u32;
@@ -158,6 +159,7 @@ impl Parser<'_> {
             ..*self
         };
         let mut open = link;
+        // Two ways to go on.
         'commands: loop {
             let ahead = self.look(cursor);
             if ahead.ends_list() {
