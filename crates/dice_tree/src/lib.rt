@@ -1,4 +1,5 @@
 //! Texts of commands as owned trees, for the runner that draws its moves by dice: a lexer and a parser of their own.
+//! They share no code with those that they are compared with, so they have their own enums of words, signs and stages.
 
 #![tactic(auto)]
 

@@ -60,7 +60,7 @@ pub fn signs(c: u8) -> Option<(Sign, Sign)>
     }
 }
 
-// Three chains with a function each: inside a longer function, or with the test as a parameter, the check does not find their value.
+// Each is one chain of the library with a test of its own: a function that takes the test would only give `take_while` another name.
 /// How many bytes of a bare word stand at the front.
 pub fn bare_len(bytes: &[u8]) -> usize
     ensures { result ≡ length (take_while (λ c. not (ends_word c)) bytes.now) }
