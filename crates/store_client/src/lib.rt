@@ -119,7 +119,7 @@ impl From<Refusal> for Halt {
 }
 
 /// One step.
-pub fn act(st: &mut Store, op: Op) -> Result<(), Refusal>
+pub fn perform(st: &mut Store, op: Op) -> Result<(), Refusal>
     ensures same { bounds st.new ≡ bounds st.old }
     ensures after { OnOk result (model st.new ≡ acted (code_of op) (model st.old)) }
 {
@@ -137,16 +137,24 @@ pub fn act(st: &mut Store, op: Op) -> Result<(), Refusal>
     }
 }
 
+/// The step with the number `op`; where there is no such step, nothing changes.
+pub fn act(st: &mut Store, op: u32) -> Result<(), Halt>
+    ensures same { bounds st.new ≡ bounds st.old }
+    ensures after { OnOk result (model st.new ≡ acted op (model st.old)) }
+    ensures unknown { (e : UnknownOp) → result ≡ Err (Unknown e) → model st.new ≡ acted op (model st.old) }
+{
+    perform(st, Op::try_from(op)?)?;
+    Ok(())
+}
+
 /// The step whose number stands where the machine is.
 pub fn turn(st: &mut Store) -> Result<(), Halt>
     ensures same { bounds st.new ≡ bounds st.old }
     ensures after { OnOk result (model st.new ≡ acted (slice_index (slice_index_or (model st.old) 1 []) (slice_index (slice_index_or (model st.old) 2 []) 0)) (model st.old)) }
-    ensures unknown { (op : UnknownOp) → result ≡ Err (Unknown op) → model st.new ≡ model st.old }
+    ensures unknown { (e : UnknownOp) → result ≡ Err (Unknown e) → model st.new ≡ acted (slice_index (slice_index_or (model st.old) 1 []) (slice_index (slice_index_or (model st.old) 2 []) 0)) (model st.old) }
 {
     let pc = st.get(2, 0) as usize;
-    let op = Op::try_from(st.get(1, pc))?;
-    act(st, op)?;
-    Ok(())
+    act(st, st.get(1, pc))
 }
 
 /// One word more in each of five lists; what that makes of the second.
