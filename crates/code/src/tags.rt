@@ -57,7 +57,7 @@ impl PartTag {
 #[derive(Clone, Copy, Debug, PartialEq, Eq)]
 pub struct UnknownTag(pub u32);
 
-// Here a number becomes a tag, and back: the numbers are the layout of the code.
+// Here a number becomes a tag, and a tag its number: the numbers are the layout of the code. Who writes a tag that is known there has the same number by `as`.
 
 impl From<CommandTag> for u32 {
     ghost from_gives = { IsCommandNumber };

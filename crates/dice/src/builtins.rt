@@ -228,7 +228,7 @@ impl<'t> Runner<'t> {
         Ok(step)
     }
 
-    /// One arm for each builtin at work.
+    /// One arm for each builtin at work: each takes other data out of its variant, so no table of functions would do.
     fn progress(
         &mut self,
         process: &mut Process<'t>,

@@ -418,7 +418,7 @@ impl<'t> Runner<'t> {
     }
 
     /// All words are expanded: what they are for.
-    /// One arm for each purpose: what a process keeps is data, which others look into, and no code.
+    /// One arm for each purpose: each takes other data out of its variant, so no table of functions would do.
     fn expanded(
         &mut self,
         process: &mut Process<'t>,

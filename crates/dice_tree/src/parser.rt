@@ -69,7 +69,7 @@ fn first_word_fits(word: &Word) -> bool {
 }
 
 /// A sign that begins a redirection.
-// An Option, and no TryFrom: nobody would read its error.
+// An Option, and no TryFrom: it is asked at each sign, and that most begin no redirection is no error.
 fn redirect_kind(sign: Sign) -> Option<RedirectKind> {
     match sign {
         Sign::Less => Some(RedirectKind::Input),
@@ -644,7 +644,7 @@ impl<'t> Parser<'t> {
     }
 
     /// A command that begins with a reserved word or (.
-    // One arm for each form; `left` is a parameter here as everywhere, since each way out of `list` would have to set a field back.
+    // One arm for each word that begins one. `left` is a parameter here as everywhere: as a field, each way out of `list` would have to set it back.
     #[cycle(parsing)]
     fn compound(&mut self, left: u32) -> Result<Compound, Fault>
         ensures { OnOk result (self.new ≤ self.old) }

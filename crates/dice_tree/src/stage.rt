@@ -104,7 +104,7 @@ fn arms_stage(arms: &[Arm]) -> Stage {
     most
 }
 
-// One arm for each form.
+// One arm for each form: each takes other data out of its variant, so no table of functions would do.
 #[cycle(stage)]
 fn compound_stage(compound: &Compound) -> Stage {
     match compound {

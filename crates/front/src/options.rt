@@ -3,9 +3,13 @@ ghost use Rattle.std.specs.Prelude.{◌≡◌, ◌≤◌, length, take, IfOk, On
 ghost use Rattle.front.specs.Sources.{source_name, TextIs};
 
 use crate::files::fill;
+use lexer::MAX_TEXT;
 use std::error::Error;
 use std::str::FromStr;
 use std::{env, fmt, fs, io};
+
+/// A buffer for the longest text that is read, and a byte more.
+pub const TEXT_BYTES: usize = MAX_TEXT + 1;
 
 /// Where the text comes from: a file by its name, or the command line itself.
 #[derive(Debug, Drop)]

@@ -19,7 +19,7 @@ impl fmt::Display for UnknownCode {
 
 impl Error for UnknownCode {}
 
-// The numbers stand in lent words; they are known here alone.
+// The numbers stand in lent words; but for the first keyword's they are known here alone.
 
 /// The code of a quote that is not closed.
 const UNCLOSED: u32 = 45;

@@ -51,6 +51,7 @@ fn push_reversed(
     requires in_bounds { high ≤ length (slice_index_or (model st.old) from []) }
     ensures { Pushed st.old st.new to (rev (shown (drop low (take high (slice_index_or (model st.old) from []))))) result }
 {
+    // By place: the store that lends the one list is written to at each turn.
     for j in (low..high).rev() {
         let w = st.get(from, j);
         extend(st, to, &[shown_byte(w)])?;

@@ -6,7 +6,7 @@ use crate::frames::Frame;
 use crate::process::{Control, Expansion, Process, Unwind};
 use code::{Code, Command};
 
-// One word of a cell is read: the frame tells which command stands there.
+// The frame tells which command stands there, so one word of its cell is read, and not all of it by `Code::command`.
 // Where a loop's condition stands in its cell.
 const CONDITION: usize = 2;
 
@@ -189,7 +189,7 @@ fn if_status(code: Code<'_>, process: Process, a: u32, n: u32) -> Resumed
 }
 
 /// A command is done with status n, which is the last status of the process already; `frame` is its last frame.
-// One arm for each frame.
+// One arm for each frame: each takes other data out of its variant, so no table of functions would do.
 pub fn next_status(code: Code<'_>, process: Process, frame: Frame, n: u32) -> Resumed
     ensures { result ≡ status_next code.entry.words.now process frame n }
 {

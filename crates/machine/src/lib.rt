@@ -15,7 +15,7 @@ mod step;
 mod stretch;
 
 pub use halt::Halt;
-pub use process::{Builtin, Control, Expansion, Process, Unwind};
+pub use process::{Builtin, Control, Expansion, INPUT, PAPER, Process, Unwind};
 pub use room::{own_room_stands, refusal_bound_stands};
 pub use step::{Step, take_step};
 pub use stretch::{Ending, Stretch, run_stretch};

@@ -26,6 +26,7 @@ pub enum BuiltinName {
     Continue,
     Shift,
     Wait,
+    /// A name that is none: a command too, with a status of its own.
     Other,
 }
 
@@ -67,6 +68,7 @@ fn is_named(words: &[u32], name: &str) -> bool
 pub fn builtin_name(words: &[u32]) -> BuiltinName
     ensures { result ≡ name_of words.now }
 {
+    // Tried with `find`: the whole equation over the table is left to prove, where a loop goes row by row.
     for (name, builtin) in NAMES {
         if is_named(words, name) {
             return builtin;

@@ -1,7 +1,9 @@
 //! A process, as far as it is passed by value. What grows stands in lists of the store, from the number `base` on.
 ghost use Rattle.std.specs.Prelude.{◌≡◌, ◌+◌};
 
-/// The handle of the host's paper.
+/// The handles of the host's input and of its paper.
+pub const INPUT: u32 = 0;
+
 pub const PAPER: u32 = 1;
 
 // The lists of a process behind that of its frames, from its base on.

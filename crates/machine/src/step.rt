@@ -68,7 +68,7 @@ fn step_unwind(code: Code<'_>, st: &mut Store, process: Process, unwind: Unwind,
 }
 
 /// One step of a process; what it prints goes to this place of the paper.
-// One arm for each control.
+// One arm for each control: each takes other data out of its variant, so no table of functions would do.
 pub fn take_step(
     code: Code<'_>,
     st: &mut Store,

@@ -53,6 +53,7 @@ pub fn run_stretch(
     let mut place = place;
     // Counts the moves.
     for moves in 0..most {
+        // Not by `?`: what was printed goes out beside the halt.
         let step = match take_step(code, st, paper, place, process) {
             Ok(step) => step,
             Err(halt) => return ended(process, place, moves, Err(halt)),

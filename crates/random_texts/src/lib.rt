@@ -308,7 +308,7 @@ impl Generator {
     }
 
     /// A template of this kind. A calm text has no & behind a command.
-    /// One arm for each kind: their tables have different types of choice.
+    /// One arm for each kind: they choose in different ways, by stage, up to a number, or freely.
     fn template(&mut self, kind: Kind) -> &'static str {
         match kind {
             Kind::List => self.choose(LISTS),

@@ -6,6 +6,7 @@ ghost use Rattle.reader.specs.Answer.{IsProgram, NoProgram};
 
 pub use crate::error::{Expected, SyntaxError};
 use crate::parser::{Cursor, Parser};
+use code::LEVELS;
 use lexer::{MAX_TEXT, tokenize};
 
 mod ahead;
@@ -22,8 +23,6 @@ pub const TOKENS_PER_BYTE: usize = 3;
 
 pub const TOKENS_EXTRA: usize = 6;
 
-/// Lists stand less deep than this.
-const LEVELS: u32 = 33;
 /// The word that links to the first cell, and the first free word.
 const ROOT: usize = 1;
 

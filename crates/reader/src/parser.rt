@@ -27,7 +27,8 @@ pub struct Parser<'t> {
 
 /// Where reading and writing stand: the next token, the words for the code with the first that is free, and the highest
 /// stage so far.
-/// No ghost field stands beside a `&mut`, so each call that takes it says which words stay.
+/// No ghost field stands beside a `&mut`, so each call that takes it says which words stay. `room` and `link` are facts of the
+/// call: how many words a form takes, and where the link to it stands.
 #[derive(Drop)]
 pub struct Cursor<'c> {
     pub code: &'c mut [u32],
@@ -65,7 +66,7 @@ impl Parser<'_> {
     fn is_joined(&self, at: usize) -> bool
         ensures { result ≡ joins (code_at (tokens_from self.now.tokens.text.now at)) }
     {
-        matches!(self.tokens.get(at), Some(Token::Part { joined: true, .. }))
+        self.tokens.get(at).is_some_and(Token::is_joined)
     }
 
     fn look(&self, cursor: &Cursor<'_>) -> Ahead

@@ -12,7 +12,7 @@ pub fn open_lists(st: &mut Store, n: usize) -> Result<(), Refusal>
     ensures after { model st.new ≡ model st.old }
     ensures says { Opened n (bounds st.old).0 (model st.old) (bounds st.new) result }
 {
-    // A count, and no index.
+    // One by one: the promise says what is open where there is no room for all, and `fresh_block` opens all or none.
     for _j in 0..n {
         if st.fresh().is_none() {
             return Err(Refusal::NoRoom);

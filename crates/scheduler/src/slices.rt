@@ -7,7 +7,7 @@ ghost use Rattle.scheduler.specs.Outcomes.{Executed, Goes, at_root};
 use crate::lists::open_lists;
 use crate::queue::{QUEUE, first_ready, rotate};
 use code::Code;
-use machine::{Control, Ending, Halt, Process, run_stretch};
+use machine::{Control, Ending, Halt, INPUT, PAPER, Process, run_stretch};
 use store::{Refusal, Store, store_in};
 
 /// How a run ended where nothing stopped it.
@@ -44,8 +44,8 @@ pub fn first_process(root: u32) -> Process
     Process {
         control: Control::AtList(root),
         status: 0,
-        stdin: 0,
-        stdout: 1,
+        stdin: INPUT,
+        stdout: PAPER,
         base: FIRST,
     }
 }
@@ -80,6 +80,7 @@ fn run_slices(
         let slice = (most - made).min(SLICE);
         let stretch = run_stretch(code, st, paper, printed, process, slice as u32);
         printed = stretch.place;
+        // Not by `?`: what was printed goes out beside the halt.
         let ending = match stretch.ending {
             Ok(ending) => ending,
             Err(halt) => return ended(printed, Err(halt)),
@@ -113,6 +114,6 @@ pub fn execute(code: Code<'_>, root: u32, most: u64, paper: &mut [u8], words: &m
     let all = words.len();
     match begin(words) {
         Ok(mut st) => run_slices(code, &mut st, most, paper, root, all),
-        Err(_) => ended(0, Err(Halt::NoRoom)),
+        Err(refusal) => ended(0, Err(refusal.into())),
     }
 }

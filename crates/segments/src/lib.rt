@@ -88,6 +88,7 @@ impl<'a> Segments<'a> {
     }
 }
 
+// `there` asks that a number be one of a segment: a fact of the argument, and of no field.
 impl Segments<'_> {
     /// How many segments there are.
     pub fn count(&self) -> usize
@@ -244,7 +245,7 @@ impl Segments<'_> {
         ensures rooms { (k : ℕ) → k < length self.old.segments → (nth self.new k).room ≡ length (nth self.old k).words + length (nth self.old k).words / 4 }
     {
         let mut at = to;
-        // By number: the entries lie in lent words. So in `first_unused` and `used_front`.
+        // By number: an entry is eight of the lent words, so there is no list to go over. So in `first_unused` and `used_front`.
         for k in 0..self.count() {
             let len = self.len(k);
             let room = len + len / 4;

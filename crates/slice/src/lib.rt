@@ -30,6 +30,7 @@ fn literals(code: Code<'_>, parts: u32) -> bool
     code.chain(parts).all(|at| is_literal(code, at))
 }
 
+// One word of a cell is read by its place, where `Code` has no call for it alone; so below.
 /// Whether these words are of literals.
 fn all_literals(code: Code<'_>, words: u32) -> bool
     ensures { result ≡ all_literals_at code.entry.words.now words }
@@ -139,6 +140,7 @@ fn covers_pipeline(code: Code<'_>, at: u32, left: u32) -> bool
 fn covers_and_or(code: Code<'_>, last: u32, left: u32) -> bool
     ensures { AndOrSays code.entry.text.now code.entry.words.now last left result }
 {
+    // A `for` here and below: a closure that leads back into the walk owes at each turn that it may be called.
     for at in code.chain(last) {
         if !covers_pipeline(code, code.and_or(at).pipeline, left) {
             return false;

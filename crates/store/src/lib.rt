@@ -400,7 +400,8 @@ impl Store<'_> {
         self.release(i);
     }
 
-    /// Lists i and j, if both are in use, change places; no word of theirs is moved.
+    /// Lists i and j, if both are in use, change places; no word of theirs is moved. The answer says whether both are in use:
+    /// a question, since nothing can be refused.
     pub fn swap(&mut self, i: usize, j: usize) -> bool
         ensures same { bounds self.new ≡ bounds self.old }
         ensures after { model self.new ≡ (if result then slice_set (slice_set (model self.old) i (slice_index_or (model self.old) j [])) j (slice_index_or (model self.old) i []) else model self.old) }

@@ -102,7 +102,7 @@ impl Level<'_> {
         Ok(())
     }
 
-    // One arm for each form.
+    // One arm for each form: each takes other data out of its variant, so no table of functions would do.
     #[cycle(showing)]
     fn command(self, at: u32) -> io::Result<()> {
         let Some(command) = self.code.command(at) else {
@@ -157,6 +157,7 @@ impl Level<'_> {
         self.inner().redirects(redirects)
     }
 
+    // One word of a cell is read by its place, where `Code` has no call for it alone; so below.
     /// An if; an address of 0 says that there is no else.
     #[cycle(showing)]
     fn branches(self, condition: u32, then: u32, otherwise: u32, redirects: u32) -> io::Result<()> {

@@ -4,15 +4,13 @@
 use anyhow::anyhow;
 use front::faults::{Fault, read_text};
 use front::files::fill;
-use front::options::{Options, Source};
+use front::options::{Options, Source, TEXT_BYTES};
 use front::program::answer;
 use pipes::{Ran, run};
 use std::io::Write;
 use std::process::ExitCode;
 
-/// Buffers, 4 MiB in all: the text and a byte more, the input and a byte more, the paper, and words of four bytes.
-const TEXT_BYTES: usize = 16385;
-
+/// Buffers, 4 MiB in all with the text's: the input and a byte more, the paper, and words of four bytes.
 const INPUT_BYTES: usize = 1048577;
 
 const PAPER_BYTES: usize = 1048576;

@@ -2,16 +2,13 @@
 #![tactic(auto)]
 
 use front::faults::{Fault, read_text};
-use front::options::Options;
+use front::options::{Options, TEXT_BYTES};
 use front::program::answer;
 use lexer::{MAX_TEXT, tokenize};
 use reader::{TOKENS_EXTRA, TOKENS_PER_BYTE};
 use std::process::ExitCode;
 use view::tokens::show_tokens;
 use view::tree::show_program;
-
-/// The longest text that is read, and a byte more.
-const TEXT_BYTES: usize = MAX_TEXT + 1;
 
 const HELP: &str = "usage: zibkora_view (FILE | -c TEXT)
 

@@ -62,7 +62,7 @@ impl Parser<'_> {
     }
 
     /// A command, by what stands ahead.
-    /// One arm for each form of command.
+    /// One arm for each form of command, as the grammar has it.
     #[cycle(parsing)]
     pub fn command(&self, cursor: &mut Cursor<'_>) -> Result<(), Stop>
         requires { Room self.now cursor.old 15 }

@@ -13,7 +13,7 @@ use crate::stage::Stage;
 use code::CommandTag;
 use lexer::{Keyword, Sign, Token};
 
-/// Whether a token joins two pipelines, and then whether it is &&.
+/// Whether a token joins two pipelines, and then whether it is &&, as the flag in the code says.
 fn joint(token: Option<Token>) -> Option<bool>
     ensures { IsJoint (next_code token) result }
 {
@@ -24,7 +24,7 @@ fn joint(token: Option<Token>) -> Option<bool>
     }
 }
 
-/// Whether a token ends a command, and then whether that is done in the background.
+/// Whether a token ends a command, and then whether that is done in the background, as the flag in the code says.
 fn terminator(token: Option<Token>) -> Option<bool>
     ensures { IsTerminator (next_code token) result }
 {
