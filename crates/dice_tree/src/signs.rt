@@ -31,46 +31,36 @@ impl<'t> TryFrom<&'t [u8]> for Keyword {
     type Error = NotReserved;
 
     fn try_from(word: &'t [u8]) -> Result<Keyword, NotReserved> {
-        match word {
-            b"if" => Ok(Keyword::If),
-            b"then" => Ok(Keyword::Then),
-            b"elif" => Ok(Keyword::Elif),
-            b"else" => Ok(Keyword::Else),
-            b"fi" => Ok(Keyword::Fi),
-            b"while" => Ok(Keyword::While),
-            b"do" => Ok(Keyword::Do),
-            b"done" => Ok(Keyword::Done),
-            b"for" => Ok(Keyword::For),
-            b"in" => Ok(Keyword::In),
-            b"case" => Ok(Keyword::Case),
-            b"when" => Ok(Keyword::When),
-            b"esac" => Ok(Keyword::Esac),
-            b"{" => Ok(Keyword::OpenBrace),
-            b"}" => Ok(Keyword::CloseBrace),
-            b"!" => Ok(Keyword::Not),
-            _ => Err(NotReserved),
-        }
+        Keyword::ALL
+            .iter()
+            .copied()
+            .find(|keyword| word == keyword.spelling().as_bytes())
+            .ok_or(NotReserved)
     }
 }
 
 impl Keyword {
-    /// The others end the list that they stand behind.
-    pub fn begins_command(self) -> bool {
-        matches!(
-            self,
-            Keyword::If
-                | Keyword::While
-                | Keyword::For
-                | Keyword::Case
-                | Keyword::OpenBrace
-                | Keyword::Not
-        )
-    }
-}
+    const ALL: [Keyword; 16] = [
+        Keyword::If,
+        Keyword::Then,
+        Keyword::Elif,
+        Keyword::Else,
+        Keyword::Fi,
+        Keyword::While,
+        Keyword::Do,
+        Keyword::Done,
+        Keyword::For,
+        Keyword::In,
+        Keyword::Case,
+        Keyword::When,
+        Keyword::Esac,
+        Keyword::OpenBrace,
+        Keyword::CloseBrace,
+        Keyword::Not,
+    ];
 
-impl fmt::Display for Keyword {
-    fn fmt<W: fmt::Write>(&self, f: &mut fmt::Formatter<W>) -> fmt::Result {
-        f.write_str(match self {
+    fn spelling(self) -> &'static str {
+        match self {
             Keyword::If => "if",
             Keyword::Then => "then",
             Keyword::Elif => "elif",
@@ -87,7 +77,26 @@ impl fmt::Display for Keyword {
             Keyword::OpenBrace => "{",
             Keyword::CloseBrace => "}",
             Keyword::Not => "!",
-        })
+        }
+    }
+
+    /// The others end the list that they stand behind.
+    pub fn begins_command(self) -> bool {
+        matches!(
+            self,
+            Keyword::If
+                | Keyword::While
+                | Keyword::For
+                | Keyword::Case
+                | Keyword::OpenBrace
+                | Keyword::Not
+        )
+    }
+}
+
+impl fmt::Display for Keyword {
+    fn fmt<W: fmt::Write>(&self, f: &mut fmt::Formatter<W>) -> fmt::Result {
+        f.write_str(self.spelling())
     }
 }
 
@@ -117,21 +126,49 @@ impl TryFrom<u8> for Sign {
     type Error = NoSign;
 
     fn try_from(byte: u8) -> Result<Sign, NoSign> {
-        match byte {
-            b';' => Ok(Sign::Semicolon),
-            b'&' => Ok(Sign::Ampersand),
-            b'|' => Ok(Sign::Bar),
-            b'<' => Ok(Sign::Less),
-            b'>' => Ok(Sign::Greater),
-            b'(' => Ok(Sign::OpenParenthesis),
-            b')' => Ok(Sign::CloseParenthesis),
-            b'\n' => Ok(Sign::EndOfLine),
-            _ => Err(NoSign),
-        }
+        Sign::ALL
+            .iter()
+            .copied()
+            .find(|sign| sign.spelling().as_bytes() == [byte].as_slice())
+            .ok_or(NoSign)
     }
 }
 
 impl Sign {
+    const ALL: [Sign; 13] = [
+        Sign::Semicolon,
+        Sign::DoubleSemicolon,
+        Sign::Ampersand,
+        Sign::DoubleAmpersand,
+        Sign::Bar,
+        Sign::DoubleBar,
+        Sign::Less,
+        Sign::DoubleLess,
+        Sign::Greater,
+        Sign::DoubleGreater,
+        Sign::OpenParenthesis,
+        Sign::CloseParenthesis,
+        Sign::EndOfLine,
+    ];
+
+    fn spelling(self) -> &'static str {
+        match self {
+            Sign::Semicolon => ";",
+            Sign::DoubleSemicolon => ";;",
+            Sign::Ampersand => "&",
+            Sign::DoubleAmpersand => "&&",
+            Sign::Bar => "|",
+            Sign::DoubleBar => "||",
+            Sign::Less => "<",
+            Sign::DoubleLess => "<<",
+            Sign::Greater => ">",
+            Sign::DoubleGreater => ">>",
+            Sign::OpenParenthesis => "(",
+            Sign::CloseParenthesis => ")",
+            Sign::EndOfLine => "\n",
+        }
+    }
+
     /// The sign that its byte is if it comes twice.
     // An Option, as not every byte is a sign twice.
     pub fn twice(self) -> Option<Sign> {
@@ -148,21 +185,7 @@ impl Sign {
 
 impl fmt::Display for Sign {
     fn fmt<W: fmt::Write>(&self, f: &mut fmt::Formatter<W>) -> fmt::Result {
-        f.write_str(match self {
-            Sign::Semicolon => ";",
-            Sign::DoubleSemicolon => ";;",
-            Sign::Ampersand => "&",
-            Sign::DoubleAmpersand => "&&",
-            Sign::Bar => "|",
-            Sign::DoubleBar => "||",
-            Sign::Less => "<",
-            Sign::DoubleLess => "<<",
-            Sign::Greater => ">",
-            Sign::DoubleGreater => ">>",
-            Sign::OpenParenthesis => "(",
-            Sign::CloseParenthesis => ")",
-            Sign::EndOfLine => "\n",
-        })
+        f.write_str(self.spelling())
     }
 }
 

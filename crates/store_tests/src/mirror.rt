@@ -88,9 +88,8 @@ impl Mirror {
 
     fn total(&self) -> usize {
         let mut total: usize = 0;
-        // By number, as the lists of the store have numbers alone; so below.
-        for i in 0..LISTS {
-            total = total.wrapping_add(self.len(i));
+        for list in self.lists.iter().flatten() {
+            total = total.wrapping_add(list.len());
         }
         total
     }
@@ -101,12 +100,10 @@ impl Mirror {
 
     /// Behind the last number in use.
     fn extent(&self) -> usize {
-        for i in (0..LISTS).rev() {
-            if self.alive(i) {
-                return i + 1;
-            }
+        match self.lists.iter().rposition(|list| list.is_some()) {
+            Some(last) => last + 1,
+            None => 0,
         }
-        0
     }
 
     /// The sum that says whether there is room.
@@ -292,6 +289,7 @@ impl Mirror {
 
     /// Compares all lists.
     pub fn compare(&mut self, st: &Store) {
+        // By number, as the lists of the store have numbers alone.
         for i in 0..LISTS {
             let right = self.agrees(st, i);
             self.check(right);

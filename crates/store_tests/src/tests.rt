@@ -57,12 +57,7 @@ fn most_pushes(heap: Global, size: usize) -> Result<usize, Fail> {
         return Ok(0);
     };
     let _ = st.fresh();
-    for _k in 0..1000 {
-        if st.push(0, 7).is_err() {
-            break;
-        }
-    }
-    Ok(st.len(0))
+    Ok((0..1000).take_while(|_| st.push(0, 7).is_ok()).count())
 }
 
 /// How many numbers there are, in so many words lent.
