@@ -15,6 +15,7 @@ pub enum RecordError {
 }
 
 /// What a text is expected to come to.
+/// No Result: a text that is none is what is expected here, and no error.
 #[derive(Drop)]
 pub enum Expectation {
     Runs(Expected),

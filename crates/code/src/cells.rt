@@ -1,5 +1,5 @@
 //! Cells, read at once. An address of a list, of words, assignments, redirections or arms is that of the first cell of a chain,
-//! 0 where it is empty.
+//! 0 where it is empty. It is no Option: an address is a word of the code as it stands, and chains take 0 as well.
 use crate::tags::RedirectTag;
 
 /// A command, the cell of a pipeline behind the link to the next.

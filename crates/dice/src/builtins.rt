@@ -137,6 +137,7 @@ fn start_unwind<'t>(last: u32, name: &[u8], words: &VecDeque<Vec<u8>>) -> Step<'
 
 impl<'t> Runner<'t> {
     /// The commands that read and print.
+    /// One arm for each name: what they begin with differs.
     pub fn start_builtin(
         &mut self,
         process: &mut Process<'t>,

@@ -1,4 +1,5 @@
-//! A second, simple runner: every move of every process as the meaning has it, the mover drawn by dice.
+//! A second, simple runner: every move of every process as the meaning has it, the mover drawn by dice. It shares no code with the
+//! crates that it is compared with: a mistake would be shared too. `heap` goes along wherever something is allocated.
 
 #![tactic(auto)]
 

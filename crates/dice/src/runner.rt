@@ -29,6 +29,7 @@ pub enum ReadByte {
 }
 
 /// What a move comes to: the process goes on, it has to wait, or it has exited with this status.
+/// `Step` without its control, which is put back by then.
 #[derive(Clone, Copy, PartialEq, Eq)]
 enum Motion {
     Continues,
@@ -162,6 +163,7 @@ impl<'t> Runner<'t> {
     pub fn move_one(&mut self, dice: &mut Dice) -> Result<Turn, AllocError> {
         let count = self.processes.len();
         let first = dice.below(count);
+        // By number: a process is taken out of its place and put back.
         for i in (first..count).chain(0..first) {
             if self.move_at(i)? != Motion::Waits {
                 return Ok(Turn::Moved);

@@ -114,6 +114,7 @@ pub fn decimal(heap: Global, n: u64) -> Result<Vec<u8>, AllocError> {
 }
 
 /// A number is 1 to 9 digits.
+// By hand: `parse` takes a + too.
 pub fn number(text: &[u8]) -> Option<u32>
     ensures { IfSome result (λ n. n < 10 ^ 9) }
 {

@@ -101,6 +101,7 @@ fn calm_arms(arms: &[Arm], strict: bool) -> bool {
     true
 }
 
+// One arm for each form: each takes other data out of its variant, so no table of functions would do.
 #[cycle(calm)]
 fn calm_compound(compound: &Compound, strict: bool) -> bool {
     match compound {

@@ -188,6 +188,7 @@ impl<'t> Parser<'t> {
     }
 
     /// Goes on over a bare token that is this word, if it is next.
+    /// A bool: nobody asks why it is not next. So for signs.
     fn take_keyword(&mut self, keyword: Keyword) -> bool
         ensures taken { T result → self.new < self.old }
         ensures kept { self.new ≤ self.old }

@@ -2,6 +2,7 @@
 use std::fmt;
 
 /// Bytes as they are where they can be seen, \n, \t, \\ and \xNN otherwise.
+/// Not `escape_ascii`, which also puts a sign before quotes.
 #[derive(Clone, Copy)]
 pub struct Visible<'a>(pub &'a [u8]);
 

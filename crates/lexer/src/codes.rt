@@ -32,7 +32,8 @@ const ASSIGNMENT: u32 = 64;
 /// Added to a part's code where it is joined to the token before it.
 const JOINED: u32 = 8;
 
-/// The code of a part that is not joined to the token before it.
+/// The code of a part that is not joined to the token before it. It is the number that the grammar has, where $( is 5 and 6; in
+/// the code of a text it is 4 and 5.
 fn part_code(part: PartTag) -> u32
     ensures { result ≡ part_code part }
 {

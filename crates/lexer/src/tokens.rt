@@ -36,6 +36,7 @@ pub fn tokenize<'a>(text: &'a [u8], words: &'a mut [u32]) -> Tokens<'a>
     Tokens { text, words, count }
 }
 
+// Three lent words for a token.
 impl Tokens<'_> {
     /// How many tokens the text has.
     pub fn len(&self) -> usize

@@ -18,6 +18,7 @@ pub fn write_tokens(text: &[u8], words: &mut [u32]) -> usize
 {
     let mut at = 0;
     let mut state = State::FRESH;
+    // 0 where no bracket is open, as it is kept in a lent word: no token stands before the word 3.
     let mut innermost = 0;
     let mut count = 0;
     // A turn goes on by as many bytes as it cut.

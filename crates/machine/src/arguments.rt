@@ -11,6 +11,7 @@ use crate::expansion::word_len;
 const MOST_DIGITS: usize = 9;
 
 /// An encoded word as a number: 1 to 9 digits.
+// By hand: the digits are words of the encoding, and nine at most.
 pub fn number(word: &[u32]) -> Option<u32>
     ensures small { IfSome result (λ n. n < 1000000000) }
     ensures is { result ≡ number_of word.now }

@@ -168,6 +168,7 @@ fn start_at_once(
 }
 
 /// The words are expanded: the command that the first one names begins.
+// One arm for each builtin that reads its arguments.
 pub fn step_invoke(st: &mut Store, process: Process) -> Result<Process, Halt>
     requires control { process.control ≡ Control.AtInvoke }
     ensures { (text code : List ℕ) → Does text code st.old st.new process result }

@@ -6,7 +6,8 @@ use crate::frames::Frame;
 use crate::process::{Control, Expansion, Process, Unwind};
 use code::{Code, Command};
 
-// The frame tells which command stands there, so one word of its cell is read, and not all of it by `Code::command`.
+// Not by `Code::command`, which would ask for a case that cannot come: the frame tells which command stands there.
+
 // Where a loop's condition stands in its cell.
 const CONDITION: usize = 2;
 

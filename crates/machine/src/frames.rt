@@ -9,6 +9,7 @@ use store::{Refusal, Store};
 use words::extend;
 
 // The numbers stand in lent words; the two conversions alone know them.
+
 // Tags of frames.
 const LIST: u32 = 1;
 
@@ -40,6 +41,7 @@ pub enum Frame {
 }
 
 /// A word that is no tag of a frame.
+/// As `code::UnknownTag`, of other tags.
 #[derive(Clone, Copy, Debug, PartialEq, Eq)]
 pub struct UnknownTag(pub u32);
 
@@ -107,6 +109,7 @@ pub fn settle(st: &mut Store, process: Process, frame: Option<Frame>)
     ensures says { model st.new ≡ slice_set (model st.old) process.base (settled (slice_index_or (model st.old) process.base []) frame) }
 {
     let frames = process.frames();
+    // The store sets words one by one.
     let at = st.len(frames) - SIZE;
     let Some(frame) = frame else {
         st.truncate(frames, at);

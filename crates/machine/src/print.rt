@@ -48,7 +48,7 @@ fn push_decimal(st: &mut Store, i: usize, n: u32) -> Result<(), Refusal>
     ensures { Pushed st.old st.new i (rev (decimal n)) result }
 {
     let mut rest = n;
-    // By what is left of the number, and no index.
+    // By hand and by what is left: there is no heap, and the last digit comes first.
     while rest >= 10 {
         extend(st, i, &[ZERO + rest % 10])?;
         rest /= 10;

@@ -6,6 +6,7 @@ pub const INPUT: u32 = 0;
 
 pub const PAPER: u32 = 1;
 
+// Lists of the store have numbers alone.
 // The lists of a process behind that of its frames, from its base on.
 const WORDS: usize = 1;
 
@@ -17,6 +18,7 @@ const LINE: usize = 3;
 #[derive(Clone, Copy, Debug, PartialEq, Eq)]
 pub enum Builtin {
     Done(u32),
+    /// from and to, as the meaning has them
     Seq(u32, u32),
     Yes,
 }
@@ -53,13 +55,16 @@ pub enum Control {
     AtPrint(Builtin),
     AtBuiltin(Builtin),
     AtStatus(u32),
+    /// the number is as the meaning has it: 0 at break and continue
     AtUnwind(Unwind, u32),
 }
 
 #[derive(Clone, Copy, Debug, PartialEq, Eq)]
 pub struct Process {
     pub control: Control,
+    /// a number of the language; 0 is success
     pub status: u32,
+    /// handles are numbers, as in the meaning
     pub stdin: u32,
     pub stdout: u32,
     pub base: u32,

@@ -9,6 +9,7 @@ use reader::{CODE_EXTRA, CODE_PER_BYTE, read};
 use std::fmt;
 
 /// How a run came out. The first number of each that ran is how many bytes stand on the paper.
+/// It stands in each, since callers match on one value.
 #[derive(Clone, Copy, Debug, PartialEq, Eq)]
 pub enum Ran {
     /// All processes have exited, the first one with this status.

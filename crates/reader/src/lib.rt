@@ -14,6 +14,7 @@ mod error;
 mod parser;
 mod stage;
 
+// Callers write the sums: their contracts speak of these numbers.
 /// Words of code for each byte of a text, and besides.
 pub const CODE_PER_BYTE: usize = 16;
 
@@ -29,6 +30,7 @@ const ROOT: usize = 1;
 const FIRST: usize = 2;
 
 /// A text as code: the address of its first cell, how many words the code takes, and its stage.
+/// The stage leaves as its number: the promise of the call speaks of numbers.
 #[derive(Clone, Copy, Debug, PartialEq, Eq)]
 pub struct Program {
     pub root: u32,

@@ -31,6 +31,7 @@ pub struct Parser<'t> {
 /// call: how many words a form takes, and where the link to it stands.
 #[derive(Drop)]
 pub struct Cursor<'c> {
+    /// The cells are written word by word: the tree of a text is code in lent words.
     pub code: &'c mut [u32],
     pub at: usize,
     pub free: usize,
@@ -96,6 +97,8 @@ impl Parser<'_> {
         self.token_is(cursor.at, wanted)
     }
 
+    // Two calls, since the contracts of their callers speak of `keyword_code` and of `sign_code_of`. They only look: a call that takes
+    // the cursor to write has to say which words stay.
     /// The next token is that keyword, or reading stops.
     fn keyword(&self, cursor: &Cursor<'_>, wanted: Keyword, expected: Expected) -> Result<(), Stop>
         ensures found { OnOk result ((cursor.now.at < self.now.tokens.count) × (code_at (ahead self.now cursor.now) ≡ keyword_code wanted)) }

@@ -161,6 +161,7 @@ impl Segments<'_> {
     }
 
     /// One word more, where segment i has room for it.
+    /// For `Store::push`; see there.
     pub fn append_word(&mut self, i: usize, v: u32)
         requires there { i < length self.old.segments }
         requires room { length (nth self.old i).words < (nth self.old i).room }
@@ -289,6 +290,7 @@ impl Segments<'_> {
         ensures before { (k : ℕ) → from ≤ k → k < result → (nth self.now k).used ≡ true }
         ensures here { (nth self.now result).used ≡ false }
     {
+        // A loop: its clause speaks of every number before, as its invariant does.
         for k in from..self.count() {
             if !self.in_use(k) {
                 return k;
@@ -325,6 +327,7 @@ fn used_front(w: &[u32], n: usize) -> usize
     ensures behind { (k : ℕ) → result ≤ k → k < n → field w.now k 6 ≢ 1 }
     ensures last { (result ≡ 0) ⊎ (field w.now (result - 1) 6 ≡ 1) }
 {
+    // A loop, as in `first_unused`.
     for k in (0..n).rev() {
         if read(w, k, Part::Mark) == USED {
             return k + 1;

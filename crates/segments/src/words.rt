@@ -2,7 +2,7 @@
 ghost use Rattle.std.specs.Prelude.{◌≡◌, ℕ, ◌+◌, ◌<◌, ◌≤◌, ◌⊎◌, List, [], ◌∷◌, length, take, drop};
 ghost use Rattle.segments.specs.Words.{at64, put64, Written};
 
-// A number here is two of the lent words; a type for the pair would only wrap these two lines.
+// A number of 64 bits takes two of the lent words; a type for the pair would only wrap these two lines.
 
 /// The number in the words at k.
 pub fn wide(t: &[u32], k: usize) -> usize

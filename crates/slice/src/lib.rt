@@ -43,6 +43,7 @@ fn all_literals(code: Code<'_>, words: u32) -> bool
 fn is_word(code: Code<'_>, parts: u32, name: &[u8]) -> bool
     ensures { result ≡ same (spelled_at code.entry.text.now code.entry.words.now parts) name.now }
 {
+    // What is left of the name goes along.
     let mut rest = name;
     for at in code.chain(parts) {
         let Some(after) = rest.strip_prefix(code.bytes_at(at as usize + 2)) else {
@@ -77,6 +78,7 @@ fn covers_words(code: Code<'_>, words: u32) -> bool
     !is_left_out(code, first)
 }
 
+// `code` and `left` stay two parameters: five short functions have them.
 /// Whether a command is run. Lists may stand fewer than `left` deep in it.
 #[cycle(parsing)]
 fn covers_command(code: Code<'_>, at: u32, left: u32) -> bool

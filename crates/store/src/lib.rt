@@ -232,7 +232,7 @@ impl Store<'_> {
     }
 
     /// One word more at the end of list i, or a refusal.
-    // Not by `extend`: what a machine does for a byte would take a tenth longer (bench/store).
+    // Not by `extend(i, &[v])`: measured with bench/store, a push took a tenth longer by it.
     pub fn push(&mut self, i: usize, v: u32) -> Result<(), Refusal>
         ensures same { bounds self.new ≡ bounds self.old }
         ensures after { MatchResult result (λ _. model self.new ≡ slice_set (model self.old) i (slice_index_or (model self.old) i [] ++ (v ∷ []))) (λ _. model self.new ≡ model self.old) }

@@ -67,6 +67,7 @@ struct Work {
 /// Pushes `pushes` words and cuts the lists to `size` words each, `rounds` times.
 fn push_rounds(mut st: Store, last: usize, size: usize, pushes: u32, rounds: u32) -> Work {
     let mut pushed: u64 = 0;
+    // A count, and no index.
     for _k in 0..rounds {
         pushed = pushed.wrapping_add(u64::from(grow(&mut st, last, pushes)));
         shrink(&mut st, last.saturating_add(1), size);

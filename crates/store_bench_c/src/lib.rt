@@ -6,6 +6,7 @@ pub extern "C" fn store_bench_touch(words: &mut [u32], last: usize, fill: u32, c
     store_bench::store_bench_touch(words, last, fill, count)
 }
 
+/// One number each: C takes no struct.
 #[unsafe(no_mangle)]
 pub extern "C" fn store_bench_rounds(
     words: &mut [u32],

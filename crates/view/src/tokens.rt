@@ -26,7 +26,7 @@ impl fmt::Display for Kind {
     }
 }
 
-// A match: a trait of another crate cannot be given to a type of a third.
+// It has one caller.
 fn part_name(part: PartTag) -> &'static str {
     match (part.kind, part.quoted) {
         (PartKind::Literal, false) => "literal",
@@ -43,7 +43,7 @@ pub fn show_tokens(rt: &HostRuntime, tokens: &Tokens<'_>) -> io::Result<()> {
     let text = tokens.text;
     let mut place = Place::START;
     let mut from = 0;
-    // Tokens are read by their place.
+    // Tokens are no iterator: the parser reads them by their place.
     for at in 0..tokens.len() {
         let Some(token) = tokens.get(at) else {
             break;

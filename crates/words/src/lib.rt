@@ -14,7 +14,7 @@ pub const MARK: u32 = 512;
 /// What a byte from quotes has more.
 pub const QUOTED: u32 = 256;
 
-/// The words ws behind list i, or a refusal.
+/// The words ws behind list i, or a refusal: the call of the store, as the contracts of the machine say it.
 pub fn extend(st: &mut Store, i: usize, ws: &[u32]) -> Result<(), Refusal>
     ensures { Pushed st.old st.new i ws.now result }
 {

@@ -14,7 +14,7 @@ use code::CommandTag;
 use lexer::{Keyword, PartTag, Sign, Token};
 
 /// Whether a token may name a variable.
-// Three cases; one pattern with guards is no plainer. So are `is_bare` and `may_be_first`.
+// Three cases each, here and in `is_bare` and `may_be_first`: one pattern with guards is no plainer.
 fn is_name(token: Option<Token>) -> bool
     ensures { result ≡ names (next_code token) }
 {
@@ -61,6 +61,7 @@ impl Parser<'_> {
         }
     }
 
+    // Each form is written out, as its comment has it: a table of steps would hide the words of its cell.
     /// A command, by what stands ahead.
     /// One arm for each form of command, as the grammar has it.
     #[cycle(parsing)]

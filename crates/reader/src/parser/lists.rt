@@ -106,6 +106,7 @@ impl Parser<'_> {
         ensures no_pipeline { OnErr result (parse_negatable (level self.now.left) (ahead self.now cursor.old) ≡ none) }
     {
         let top = cursor.free;
+        // Two ends, as the grammar has two forms.
         if self.look(cursor).is_not() {
             cursor.code[top + 2] = u32::from(true);
             cursor.at += 1;
@@ -142,7 +143,8 @@ impl Parser<'_> {
     }
 
     /// Commands one after the other, with lists less than `left` deep; whether the last need not be ended. A command's
-    /// cell: next, whether it is done in the background, the last of its chain of && and ||.
+    /// cell: next, whether it is done in the background, the last of its chain of && and ||. `last` is a bool, as the grammar's
+    /// lists take it.
     #[cycle(parsing)]
     pub fn list(&self, cursor: &mut Cursor<'_>, link: usize, last: bool) -> Result<(), Stop>
         requires room { Room self.now cursor.old 20 }

@@ -18,7 +18,7 @@ use lexer::{PartKind, PartTag, RedirectTag, Sign, Span, Token};
 /// The number of a part that is a literal and stands in no quotes.
 const LITERAL: u32 = 0;
 
-/// The number of a part in the code.
+/// The number of a part in the code; $( is one more among the grammar's tokens.
 fn part_number(part: PartTag) -> u32
     ensures { result + pick (is_substitution part.kind) 1 0 ≡ part_code part }
 {
@@ -135,6 +135,7 @@ impl Parser<'_> {
         Ok(())
     }
 
+    // The four loops over chains differ in what a turn reads; a closure for it would lead back into the cycle.
     /// The parts that are joined to a word, linked from `link` on.
     #[cycle(parsing)]
     fn more(&self, cursor: &mut Cursor<'_>, link: usize) -> Result<(), Stop>
