@@ -51,6 +51,7 @@ impl Reading {
 pub fn read_text(heap: Global, text: &[u8]) -> Result<Result<Reading, SyntaxError>, AllocError>
     ensures { IfOk result (λ read. MatchResult read (λ r. IsProgram text.now r.words.items r.program.root r.program.words r.program.stage) (λ e. NoProgram text.now e.at)) }
 {
+    // The answer of `read`, for which no words are asked here.
     if text.len() > MAX_TEXT {
         return Ok(Err(SyntaxError {
             at: MAX_TEXT,

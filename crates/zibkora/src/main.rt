@@ -56,6 +56,7 @@ fn explain(rt: &HostRuntime, source: &Source, text: &[u8]) -> anyhow::Result<()>
 fn run_text(rt: &HostRuntime, options: &Options) -> anyhow::Result<Ran> {
     let heap = rt.alloc();
     let mut text = vec![in heap; 0u8; TEXT_BYTES]?;
+    // The words are the program's own, whatever the host says.
     let Ok(text) = options.source.read(rt, &mut text) else {
         return Err(anyhow!("the text cannot be read"));
     };

@@ -48,6 +48,7 @@ fn show(rt: &HostRuntime, name: &str, text: &[u8]) -> anyhow::Result<ExitCode> {
 /// Shows the text that the command line names.
 fn show_named(rt: &HostRuntime, options: &Options) -> anyhow::Result<ExitCode> {
     let mut text = vec![in rt.alloc(); 0u8; TEXT_BYTES]?;
+    // The words are the program's own, whatever the host says.
     let Ok(text) = options.source.read(rt, &mut text) else {
         eprintln!(rt; "zibkora_view: the text cannot be read")?;
         return Ok(ExitCode::FAILURE);
