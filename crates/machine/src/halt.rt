@@ -8,7 +8,7 @@ use store::Refusal;
 pub enum Halt {
     /// the store has no room for what is to come
     NoRoom,
-    /// the paper has no place for the next byte
+    /// the next byte doesn't fit behind what is printed
     PaperFull,
     /// the code has a form that the machine does not have
     Unsupported,

@@ -1,7 +1,7 @@
 //! What the bench in bench/store calls: rounds of pushes into the lists of one store.
 #![tactic(auto)]
 
-ghost use Rattle.std.specs.Prelude.{◌≡◌};
+ghost use Rattle.std.specs.Prelude.{◌≡◌, ◌<◌, length, None};
 
 use store::{Store, store_in};
 
@@ -49,8 +49,10 @@ fn touch(st: &mut Store, lists: usize, count: u32) -> u32 {
     seen
 }
 
-/// A store with lists 0 up to `last`, and so many words in them.
-fn filled(words: &mut [u32], last: usize, fill: u32) -> Option<Store<'_>> {
+/// A store with lists 0 up to `last`, and so many words in them; none where too few words are lent.
+fn filled(words: &mut [u32], last: usize, fill: u32) -> Option<Store<'_>>
+    ensures { length words.old < 64 → result ≡ None }
+{
     let mut st = store_in(words)?;
     open_lists(&mut st, last.saturating_add(1));
     let _ = grow(&mut st, last, fill);
@@ -78,8 +80,10 @@ fn push_rounds(mut st: Store, last: usize, size: usize, pushes: u32, rounds: u32
     }
 }
 
-/// Makes lists 0 up to `last`, fills them, and touches them one after another.
-pub fn store_bench_touch(words: &mut [u32], last: usize, fill: u32, count: u32) -> u32 {
+/// Makes lists 0 up to `last`, fills them, and touches them one after another; 0 in words too few for a store.
+pub fn store_bench_touch(words: &mut [u32], last: usize, fill: u32, count: u32) -> u32
+    ensures { length words.old < 64 → result ≡ 0 }
+{
     filled(words, last, fill).map_or(0, |mut st| touch(&mut st, last, count))
 }
 
@@ -92,7 +96,9 @@ pub fn store_bench_rounds(
     size: usize,
     pushes: u32,
     rounds: u32,
-) -> u64 {
+) -> u64
+    ensures { length words.old < 64 → result ≡ 0 }
+{
     filled(words, last, fill).map_or(0, |st| push_rounds(st, last, size, pushes, rounds).pushed)
 }
 
@@ -104,6 +110,8 @@ pub fn store_bench_moved(
     size: usize,
     pushes: u32,
     rounds: u32,
-) -> usize {
+) -> usize
+    ensures { length words.old < 64 → result ≡ 0 }
+{
     filled(words, last, fill).map_or(0, |st| push_rounds(st, last, size, pushes, rounds).moved)
 }

@@ -1,8 +1,12 @@
 //! The calls of `store_bench` as C and Rust outside see them.
 #![tactic(auto)]
 
+ghost use Rattle.std.specs.Prelude.{◌≡◌, ◌<◌, length};
+
 #[unsafe(no_mangle)]
-pub extern "C" fn store_bench_touch(words: &mut [u32], last: usize, fill: u32, count: u32) -> u32 {
+pub extern "C" fn store_bench_touch(words: &mut [u32], last: usize, fill: u32, count: u32) -> u32
+    ensures { length words.old < 64 → result ≡ 0 }
+{
     store_bench::store_bench_touch(words, last, fill, count)
 }
 
@@ -15,7 +19,9 @@ pub extern "C" fn store_bench_rounds(
     size: usize,
     pushes: u32,
     rounds: u32,
-) -> u64 {
+) -> u64
+    ensures { length words.old < 64 → result ≡ 0 }
+{
     store_bench::store_bench_rounds(words, last, fill, size, pushes, rounds)
 }
 
@@ -27,6 +33,8 @@ pub extern "C" fn store_bench_moved(
     size: usize,
     pushes: u32,
     rounds: u32,
-) -> usize {
+) -> usize
+    ensures { length words.old < 64 → result ≡ 0 }
+{
     store_bench::store_bench_moved(words, last, fill, size, pushes, rounds)
 }
