@@ -1,5 +1,5 @@
 -- The numbers that stand for tokens.
-use Rattle.std.specs.Prelude.{List, ◌≡◌, ℕ, ◌+◌, Bool, true, false, not, [], ◌∷◌, codes, Result, MatchResult, ◌≢◌, ◌<◌, ⊤}
+use Rattle.std.specs.Prelude.{◌≡◌, ℕ, ◌+◌, Bool, true, false, not, ◌&&◌, nat_le, [], ◌∷◌, codes, Result, MatchResult, ◌≢◌, ◌<◌, ⊤}
 use Rattle.std.specs.declared.option.Option.{Option}
 use Rattle.std.specs.declared.option.Option.TheVariants.{Some, None}
 use Rattle.syntax.specs.Base.{pick, Name}
@@ -131,6 +131,10 @@ Fits unclosed = ⊤
 -- the result is the token with this code, or an error where no token has it
 abbrev pub Decodes : ℕ → Result Token UnknownCode → Type 0
 Decodes c r = MatchResult r (λ x. code_of x ≡ c) (λ e. (e.0 ≡ c) × ((x : Token) → Fits x → code_of x ≢ c))
+
+-- whether a code is that of a part that is joined to the token before it
+abbrev pub joined_code : ℕ → Bool
+joined_code k = nat_le 8 k && nat_le k 15
 
 abbrev pub is_joined : Token → Bool
 is_joined (part p joined) = joined

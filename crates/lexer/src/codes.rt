@@ -1,6 +1,6 @@
 //! The numbers that stand for tokens in the lent words.
 ghost use Rattle.std.specs.Prelude.{◌≡◌, ℕ, ◌≢◌, MatchOption};
-ghost use Rattle.lexer.specs.Codes.{Decodes, code_of, part_code, sign_code_of};
+ghost use Rattle.lexer.specs.Codes.{Decodes, code_of, joined_code, part_code, sign_code_of};
 
 use crate::token::{Keyword, Sign, Token};
 use code::{PartKind, PartTag};
@@ -31,6 +31,17 @@ const ASSIGNMENT: u32 = 64;
 
 /// Added to a part's code where it is joined to the token before it.
 const JOINED: u32 = 8;
+
+/// No token has it: what is read behind the last token.
+pub const END: u32 = 47;
+
+/// Whether a code is that of a part that is joined to the token before it.
+#[inline]
+pub fn is_joined(code: u32) -> bool
+    ensures { result ≡ joined_code code }
+{
+    matches!(code, 8..=15)
+}
 
 /// The code of a part that is not joined to the token before it. It is the number that the grammar has, where $( is 5 and 6; in
 /// the code of a text it is 4 and 5.
@@ -79,6 +90,7 @@ fn sign_code(sign: Sign) -> u32
 impl From<Token> for u32 {
     ghost from_gives = { λ token code. code ≡ code_of token };
 
+    #[inline]
     fn from(token: Token) -> u32 {
         match token {
             Token::Part { part, joined } => part_code(part) + if joined { JOINED } else { 0 },
@@ -96,6 +108,7 @@ impl TryFrom<u32> for Token {
 
     ghost try_from_gives = { Decodes };
 
+    #[inline]
     fn try_from(code: u32) -> Result<Self, UnknownCode> {
         match code {
             0..=15 => {

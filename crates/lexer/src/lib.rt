@@ -4,6 +4,7 @@
 pub use crate::codes::UnknownCode;
 pub use crate::token::{Keyword, Sign, Token};
 pub use crate::tokens::{Span, Tokens, tokenize};
+pub use crate::write::write_tokens;
 pub use code::{PartKind, PartTag, RedirectTag};
 
 mod bytes;

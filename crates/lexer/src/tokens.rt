@@ -1,9 +1,10 @@
 //! The tokens of a text, read from the words that they are kept in.
-ghost use Rattle.std.specs.Prelude.{◌≡◌, ℕ, ◌+◌, ◌*◌, ◌<◌, ◌≤◌, false, [], length, slice_index_or};
+ghost use Rattle.std.specs.Prelude.{◌≡◌, ◌↔◌, IsTrue, ℕ, ◌+◌, ◌*◌, ◌<◌, ◌≤◌, false, [], length, slice_index_or};
 ghost use Rattle.grammar.specs.Tokens.{token};
-ghost use Rattle.lexer.specs.Codes.{next_code};
+ghost use Rattle.lexer.specs.Codes.{code_of, joined_code, next_code};
 ghost use Rattle.lexer.specs.Stored.{Has, Spelled, code_at, tokens_from, tokens_of};
 
+use crate::codes::{END, is_joined};
 use crate::token::Token;
 use crate::write::write_tokens;
 
@@ -46,14 +47,42 @@ impl Tokens<'_> {
         self.count
     }
 
+    /// The code of the token at a place, and `END` behind the last.
+    #[inline]
+    fn code(&self, at: usize) -> u32
+        ensures { result ≡ code_at (tokens_from self.now.text.now at) }
+    {
+        if at >= self.count {
+            return END;
+        }
+        self.words[3 * at + 3]
+    }
+
     /// The token at a place; none behind the last.
+    #[inline]
     pub fn get(&self, at: usize) -> Option<Token>
         ensures { next_code result ≡ code_at (tokens_from self.now.text.now at) }
     {
         if at >= self.count {
             return None;
         }
-        Token::try_from(self.words[3 * at + 3]).ok()
+        Token::try_from(self.code(at)).ok()
+    }
+
+    /// Whether the token at a place is this one.
+    #[inline]
+    pub fn is(&self, at: usize, wanted: Token) -> bool
+        ensures { IsTrue result ↔ (code_at (tokens_from self.now.text.now at) ≡ code_of wanted) }
+    {
+        self.code(at) == u32::from(wanted)
+    }
+
+    /// Whether the token at a place is joined to the one before it.
+    #[inline]
+    pub fn is_joined(&self, at: usize) -> bool
+        ensures { result ≡ joined_code (code_at (tokens_from self.now.text.now at)) }
+    {
+        is_joined(self.code(at))
     }
 
     /// Where the bytes of the token at a place stand. A sign's and a bracket's are not kept: it has the place alone.

@@ -10,7 +10,7 @@ use crate::cut::{Lexer, State};
 use crate::token::{Bracket, Token};
 
 /// Writes all tokens of a text from the word 3 on, and says how many they are. At an opening bracket the third word says
-/// where the bracket around it stands.
+/// where the bracket around it stands. `tokenize` does this for who reads the tokens as `Tokens`.
 pub fn write_tokens(text: &[u8], words: &mut [u32]) -> usize
     requires { (length text.now ≤ 16384) × (3 * length text.now + 6 ≤ length words.old) }
     ensures few { result ≤ length text.now + 1 }

@@ -48,12 +48,6 @@ impl Cursor<'_> {
     }
 }
 
-fn same(token: Option<Token>, wanted: Token) -> bool
-    ensures { IsTrue result ↔ (token ≡ Some wanted) }
-{
-    token == Some(wanted)
-}
-
 impl Parser<'_> {
     ghost use Rattle.reader.specs.Parsing.{ahead};
 
@@ -67,7 +61,7 @@ impl Parser<'_> {
     fn is_joined(&self, at: usize) -> bool
         ensures { result ≡ joins (code_at (tokens_from self.now.tokens.text.now at)) }
     {
-        self.tokens.get(at).is_some_and(Token::is_joined)
+        self.tokens.is_joined(at)
     }
 
     fn look(&self, cursor: &Cursor<'_>) -> Ahead
@@ -88,7 +82,7 @@ impl Parser<'_> {
     fn token_is(&self, at: usize, wanted: Token) -> bool
         ensures { IsTrue result ↔ (code_at (tokens_from self.now.tokens.text.now at) ≡ code_of wanted) }
     {
-        same(self.tokens.get(at), wanted)
+        self.tokens.is(at, wanted)
     }
 
     fn next_is(&self, cursor: &Cursor<'_>, wanted: Token) -> bool
