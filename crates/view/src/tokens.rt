@@ -1,27 +1,32 @@
 //! A text's tokens, one a line.
 use front::place::Place;
 use front::visible::Visible;
-use lexer::{PartKind, PartTag, Sign, Token, Tokens};
+use lexer::{PartKind, PartTag, Sign, Token, UnknownCode};
 use std::{fmt, io};
 
-/// What a token is, in words.
+/// Lines and columns are counted no further.
+const LAST: usize = 4294967296;
+
+/// What a token is, in words. Words that no lexer wrote may stand for none.
 #[derive(Clone, Copy)]
-struct Kind(Token);
+struct Kind(Result<Token, UnknownCode>);
 
 impl fmt::Display for Kind {
     fn fmt<W: fmt::Write>(&self, f: &mut fmt::Formatter<W>) -> fmt::Result {
         match self.0 {
-            Token::Part { part, joined } => {
+            Ok(Token::Part { part, joined }) => {
                 let kind = part_name(part);
                 let joined = if joined { "joined " } else { "" };
                 write!(f, "{joined}{kind}")
             }
-            Token::Keyword(_) => f.write_str("keyword"),
-            Token::Name => f.write_str("name"),
-            Token::Assignment { .. } => f.write_str("assignment"),
-            Token::Sign(Sign::Newline) => f.write_str("newline"),
-            Token::Sign(_) => f.write_str("sign"),
-            Token::Unclosed => f.write_str("unclosed quote"),
+            Ok(Token::Keyword(_)) => f.write_str("keyword"),
+            Ok(Token::Name) => f.write_str("name"),
+            Ok(Token::Assignment { .. }) | Err(UnknownCode(64..)) => f.write_str("assignment"),
+            Ok(Token::Sign(Sign::Newline)) => f.write_str("newline"),
+            Ok(Token::Sign(_)) => f.write_str("sign"),
+            Ok(Token::Unclosed) => f.write_str("unclosed quote"),
+            Err(UnknownCode(8..=15)) => f.write_str("joined none"),
+            Err(UnknownCode(_)) => f.write_str("none"),
         }
     }
 }
@@ -38,26 +43,43 @@ fn part_name(part: PartTag) -> &'static str {
     }
 }
 
-/// The tokens of a text, with their places.
-pub fn show_tokens(rt: &HostRuntime, tokens: &Tokens<'_>) -> io::Result<()> {
-    let text = tokens.text;
+/// What is shown of a token: a sign, or its bytes in the text; none of a bracket and of what is no token.
+fn spelling(token: Result<Token, UnknownCode>, text: &[u8], start: usize, len: usize) -> &[u8] {
+    match token {
+        Ok(Token::Sign(sign)) => return sign.spelling(),
+        Ok(Token::Unclosed) | Err(UnknownCode(..64)) => return &[],
+        Ok(Token::Part { part, .. }) if part.kind == PartKind::Substitution => return &[],
+        _ => {}
+    }
+    let from = start.min(text.len());
+    let to = from.saturating_add(len).min(text.len());
+    &text[from..to]
+}
+
+/// The place behind so many bytes more of the text.
+fn go_on(text: &[u8], from: usize, to: usize, place: Place) -> Place {
+    let mut place = place;
+    for i in from..to.min(text.len()) {
+        if place.line >= LAST || place.column >= LAST {
+            break;
+        }
+        place = place.after(text[i]);
+    }
+    place
+}
+
+/// The tokens of a text, of which there are n, with their places. Three words are each, from the word 3 on: code, start, length.
+pub fn show_tokens(rt: &HostRuntime, text: &[u8], words: &[u32], n: usize) -> io::Result<()> {
     let mut place = Place::START;
     let mut from = 0;
-    // Tokens are no iterator: the parser reads them by their place.
-    for at in 0..tokens.len() {
-        let Some(token) = tokens.get(at) else {
-            break;
-        };
-        let span = tokens.span(at);
-        if from <= span.start {
-            place = place.behind(&text[from..span.start]);
-            from = span.start;
-        }
-        let kind = Kind(token);
-        let shown = Visible(match token {
-            Token::Sign(sign) => sign.spelling(),
-            _ => &text[span.start..span.start + span.len],
-        });
+    // Whatever the words are: three that are not all there end it.
+    for token in words.chunks_exact(3).skip(1).take(n) {
+        let start = token[1] as usize;
+        place = go_on(text, from, start, place);
+        from = start;
+        let value = Token::try_from(token[0]);
+        let kind = Kind(value);
+        let shown = Visible(spelling(value, text, start, token[2] as usize));
         println!(rt; "{place} {kind} {shown}")?;
     }
     Ok(())

@@ -4,7 +4,7 @@
 use front::faults::{Fault, read_text};
 use front::options::{Options, TEXT_BYTES};
 use front::program::answer;
-use lexer::{MAX_TEXT, tokenize};
+use lexer::{MAX_TEXT, write_tokens};
 use reader::{TOKENS_EXTRA, TOKENS_PER_BYTE};
 use std::process::ExitCode;
 use view::tokens::show_tokens;
@@ -23,9 +23,9 @@ fn show_all_tokens(rt: &HostRuntime, text: &[u8]) -> anyhow::Result<()> {
         return Ok(());
     }
     let mut words = vec![in rt.alloc(); 0u32; TOKENS_PER_BYTE * text.len() + TOKENS_EXTRA]?;
-    let tokens = tokenize(text, &mut words);
+    let n = write_tokens(text, &mut words);
     println!(rt; "tokens")?;
-    show_tokens(rt, &tokens)?;
+    show_tokens(rt, text, &words, n)?;
     Ok(())
 }
 
