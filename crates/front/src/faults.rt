@@ -22,7 +22,7 @@ pub struct Fault<'a> {
 impl fmt::Display for Fault<'_> {
     fn fmt<W: fmt::Write>(&self, f: &mut fmt::Formatter<W>) -> fmt::Result {
         let Fault { name, text, error } = *self;
-        let place = place_at(text, error.at);
+        let place = place_at(text, error.at.min(MAX_TEXT));
         write!(f, "{name}:{place}: {error}")
     }
 }

@@ -7,7 +7,19 @@ use std::fs;
 use view::tree::show_program;
 
 /// What stands between two texts of a file: a line with %%.
-const BETWEEN: &str = "\n%%\n";
+const BETWEEN: &[u8] = b"\n%%\n";
+
+/// The first text of a file's bytes, and what stands behind the line with %% that ends it. The last text ends with the end of a line,
+/// or with the file.
+fn first(bytes: &[u8]) -> (&[u8], &[u8]) {
+    match bytes
+        .windows(BETWEEN.len())
+        .position(|part| part == BETWEEN)
+    {
+        Some(len) => (&bytes[..len], &bytes[len..][BETWEEN.len()..]),
+        None => (bytes.strip_suffix(b"\n").unwrap_or(bytes), &[]),
+    }
+}
 
 /// What a text is: its tree and stage, or where reading it stopped.
 fn show_text(rt: &HostRuntime, text: &[u8]) -> anyhow::Result<()> {
@@ -27,12 +39,18 @@ fn show_text(rt: &HostRuntime, text: &[u8]) -> anyhow::Result<()> {
     Ok(())
 }
 
-/// The texts of a file, which ends with the end of a line.
+/// The texts of a file, whatever bytes they are.
 fn show_file(rt: &HostRuntime, name: &str) -> anyhow::Result<()> {
-    let file = fs::read_to_string(rt, name)?;
-    let texts = file.as_str();
-    for text in texts.strip_suffix("\n").unwrap_or(texts).split(BETWEEN) {
-        show_text(rt, text.as_bytes())?;
+    let file = fs::read(rt, name)?;
+    let mut rest = file.as_slice();
+    // No more texts than bytes; how far a turn goes is known behind it.
+    for _ in 0..file.len() {
+        if rest.is_empty() {
+            break;
+        }
+        let (text, behind) = first(rest);
+        show_text(rt, text)?;
+        rest = behind;
     }
     Ok(())
 }
