@@ -1,9 +1,9 @@
 -- A chain that ends is no longer than the code, and its cells are those of `chain_of`.
-use Rattle.std.proofs.Common.{◌≡◌, ℕ, zero, suc, ◌+◌, ◌-◌, ◌<◌, ◌≤◌, cond, eqb, List, [], ◌∷◌, length, get_or, sym, refl, ap, ◌∙◌, subst, ⊎_elim, arith}
+use Rattle.std.proofs.Common.{◌≡◌, ℕ, zero, suc, ◌+◌, ◌-◌, ◌<◌, ◌≤◌, true, cond, eqb, List, [], ◌∷◌, length, get_or, sym, refl, ap, ◌∙◌, subst, ⊎_elim, arith}
 use Rattle.std.proofs.lemmas.List.{get_or_past}
 use Rattle.std.proofs.lemmas.Bool.{eq-eqb, ne_eqb, cases_eq, cases_lt}
 use Rattle.syntax.specs.Base.{pick}
-use Rattle.code.specs.Chains.{cells}
+use Rattle.code.specs.Chains.{cells, ends_at, ends_in}
 
 -- f, with its value at n where it was m
 moved : (ℕ → ℕ) → ℕ → ℕ → ℕ → ℕ
@@ -93,3 +93,16 @@ cells_end words (suc n) a z = ap (λ b. pick b [] (a ∷ cells words n (get_or w
 
 pub cells_more : (words : List ℕ) (n a : ℕ) → 0 < a → cells words (suc n) a ≡ a ∷ cells words n (get_or words a 0)
 cells_more words n a l = let d : a ≡ 0 → ⊥ = λ z. omega arith in ap (λ b. pick b [] (a ∷ cells words n (get_or words a 0))) (ne_eqb a 0 d)
+
+-- a chain of n cells comes to its end
+ends_more : (words : List ℕ) (m a : ℕ) → 0 < a → ends_in words (suc m) a ≡ ends_in words m (get_or words a 0)
+ends_more words m a l = let d : a ≡ 0 → ⊥ = λ z. omega arith in ap (λ b. pick b true (ends_in words m (get_or words a 0))) (ne_eqb a 0 d)
+
+ends_within : (words : List ℕ) (n m a : ℕ) → Chain words n a → n ≤ m → ends_in words m a ≡ true
+ends_within words zero zero a h l = eq-eqb a 0 h
+ends_within words zero (suc m) a h l = ap (λ b. pick b true (ends_in words m (get_or words a 0))) (eq-eqb a 0 h)
+ends_within words (suc n) zero a h l = absurd (omega arith)
+ends_within words (suc n) (suc m) a h l = ends_more words m a h.0 ∙ ends_within words n m (get_or words a 0) h.1 (omega arith)
+
+pub chain_ends : (words : List ℕ) (n a : ℕ) → Chain words n a → ends_at words a ≡ true
+chain_ends words n a h = ends_within words n (length words + 1) a h (chain_bound words n a h)

@@ -1,2 +1,3 @@
 -- Laws of chains.
 pub mod Chains
+pub mod Walks

@@ -1,7 +1,7 @@
 //! Chains of cells: the first word of each is the address of the next, or 0.
-ghost use Rattle.std.specs.Prelude.{◌≡◌, ◌+◌, length};
-ghost use Rattle.std.specs.Iterator.{YieldsFirst, item_count};
-ghost use Rattle.code.specs.Chains.{chain_of, links_of};
+ghost use Rattle.std.specs.Prelude.{◌≡◌, ◌+◌, length, []};
+ghost use Rattle.std.specs.Iterator.{item_count};
+ghost use Rattle.code.specs.Chains.{chain_of, ends, ends_at, Follows, links_of};
 
 /// The addresses of a chain's cells, from the first to the last. A chain that ends has at most one cell more than there
 /// are words of code, and one that does not is followed no further.
@@ -14,7 +14,8 @@ pub struct Chain<'a> {
 
 impl<'a> Chain<'a> {
     pub(crate) fn new(words: &'a [u32], first: u32) -> Self
-        ensures { links_of result ≡ chain_of words.now first }
+        ensures cells { links_of result ≡ chain_of words.now first }
+        ensures end { ends result ≡ ends_at words.now first }
     {
         Chain {
             words,
@@ -22,12 +23,20 @@ impl<'a> Chain<'a> {
             left: words.len() + 1,
         }
     }
+
+    /// Whether the chain, whose cells have all been given, came to its end. One that goes round is left before it comes to any.
+    #[inline]
+    pub fn ended(&self) -> bool
+        ensures { links_of self.now ≡ [] → result ≡ ends self.now }
+    {
+        self.next == 0
+    }
 }
 
 impl<'a> Iterator for Chain<'a> {
     type Item = u32;
 
-    ghost next_gives = { YieldsFirst links_of };
+    ghost next_gives = { Follows };
 
     ghost remaining = { item_count links_of };
 

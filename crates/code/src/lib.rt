@@ -3,7 +3,7 @@
 
 ghost use Rattle.std.specs.Prelude.{◌≡◌, ◌+◌, ◌-◌, ◌^◌, ◌<◌, length, take, drop, slice_index, MatchOption};
 ghost use Rattle.code.specs.Cells.{CommandIs, PartIs, AssignmentIs, RedirectIs, item_at, and_or_at, arm_at, bytes_at};
-ghost use Rattle.code.specs.Chains.{chain_of, links_of};
+ghost use Rattle.code.specs.Chains.{chain_of, ends, ends_at, links_of};
 
 pub use crate::cells::{AndOr, Arm, Assignment, Command, Item, Part, Redirect};
 pub use crate::chain::Chain;
@@ -54,7 +54,8 @@ impl<'a> Code<'a> {
     /// The cells of the chain whose first is at `first`; 0 begins an empty one.
     #[inline]
     pub fn chain(self, first: u32) -> Chain<'a>
-        ensures { links_of result ≡ chain_of self.entry.words.now first }
+        ensures cells { links_of result ≡ chain_of self.entry.words.now first }
+        ensures end { ends result ≡ ends_at self.entry.words.now first }
     {
         Chain::new(self.words, first)
     }

@@ -1,16 +1,17 @@
 -- Words and their parts, as chains of cells.
 use Rattle.std.proofs.Common.{◌≡◌, ℕ, zero, suc, ◌+◌, ◌≤◌, Bool, true, false, not, ◌&&◌, List, [], ◌∷◌, ◌++◌, length, get_or, take, drop, sym, refl, ap, ◌∙◌, subst, ⊎_elim, arith, rules}
 use Rattle.std.specs.List.{list_all}
+use Rattle.std.proofs.Math.Bool.{and-true}
 use Rattle.std.proofs.lemmas.Bool.{eq-eqb, cases_Bool, both_ways, and_parts}
 use Rattle.std.proofs.lemmas.Slice.Eq.{compares_Decides}
 use Rattle.syntax.specs.Base.{same}
 use Rattle.syntax.specs.Tree.{literal, parameter, substitution, Word, no_parts, and_part, Words, no_words, and_word}
 use Rattle.code.specs.Cells.{bytes_at}
-use Rattle.code.specs.Chains.{cells, chain_of}
+use Rattle.code.specs.Chains.{cells, chain_of, ends_at}
 use Rattle.code.specs.Code.{BytesCode, WordCode, WordsCode}
-use Rattle.code.proofs.Chains.{Chain, chain_bound, cells_end, cells_more}
+use Rattle.code.proofs.Chains.{Chain, chain_bound, chain_ends, cells_end, cells_more}
 use Rattle.slice.specs.Slice.{literals, all_literals, word_bytes, left_out, names_covered}
-use Rattle.slice.specs.Says.{is_literal, spelled, WordsSays}
+use Rattle.slice.specs.Says.{is_literal, literals_at, all_literals_at, spelled, WordsSays}
 
 -- how many cells a word and words have
 abbrev part_count : Word → ℕ
@@ -38,6 +39,12 @@ module _ (text words : List ℕ) where
   words_chain a no_words h = h
   words_chain a (and_word w ws) h = (h.0, words_chain (get_or words a 0) ws h.2)
 
+  parts_end : (a : ℕ) (w : Word) → WordCode text words a w → ends_at words a ≡ true
+  parts_end a w h = chain_ends words (part_count w) a (parts_chain a w h)
+
+  words_end : (a : ℕ) (ws : Words) → WordsCode text words a ws → ends_at words a ≡ true
+  words_end a ws h = chain_ends words (word_count ws) a (words_chain a ws h)
+
   -- the cells of a word say whether it is of literals
   literals_in : (n a : ℕ) (w : Word) → part_count w ≤ n → WordCode text words a w → list_all (is_literal words) (cells words n a) ≡ literals w
   literals_in n a no_parts l h = ap (list_all (is_literal words)) (cells_end words n a h)
@@ -49,8 +56,11 @@ module _ (text words : List ℕ) where
   literals_in (suc n) a (and_part (substitution true x) w) l h = ap (list_all (is_literal words)) (cells_more words n a h.0) ∙ grind (arith, h.1.0)
   literals_in (suc n) a (and_part (substitution false x) w) l h = ap (list_all (is_literal words)) (cells_more words n a h.0) ∙ grind (arith, h.1.0)
 
-  pub literals_of : (a : ℕ) (w : Word) → WordCode text words a w → list_all (is_literal words) (chain_of words a) ≡ literals w
-  literals_of a w h = literals_in (length words + 1) a w (chain_bound words (part_count w) a (parts_chain a w h)) h
+  pub literals_of : (a : ℕ) (w : Word) → WordCode text words a w → literals_at words a ≡ literals w
+  literals_of a w h =
+      ap (λ b. list_all (is_literal words) (chain_of words a) && b) (parts_end a w h)
+      ∙ and-true (list_all (is_literal words) (chain_of words a))
+      ∙ literals_in (length words + 1) a w (chain_bound words (part_count w) a (parts_chain a w h)) h
 
   bytes_here : (a : ℕ) (s : List ℕ) → BytesCode text words (a + 2) (a + 3) s → bytes_at text words (a + 2) ≡ s
   bytes_here a s h = let e : (a + 2) + 1 ≡ a + 3 = omega arith in ap (λ n. take (get_or words n 0) (drop (get_or words (a + 2) 0) text)) e ∙ h
@@ -68,15 +78,18 @@ module _ (text words : List ℕ) where
 
   -- the cells of words say whether all are of literals
   abbrev all_in : ℕ → Bool
-  all_in a = list_all (is_literal words) (chain_of words (get_or words (a + 1) 0))
+  all_in a = literals_at words (get_or words (a + 1) 0)
 
   all_literals_in : (n a : ℕ) (ws : Words) → word_count ws ≤ n → WordsCode text words a ws → list_all all_in (cells words n a) ≡ all_literals ws
   all_literals_in n a no_words l h = ap (list_all all_in) (cells_end words n a h)
   all_literals_in zero a (and_word w ws) l h = absurd (omega arith)
   all_literals_in (suc n) a (and_word w ws) l h = ap (list_all all_in) (cells_more words n a h.0) ∙ (let r = all_literals_in n (get_or words a 0) ws (omega arith) h.2 in cc (literals_of (get_or words (a + 1) 0) w h.1))
 
-  pub all_literals_of : (a : ℕ) (ws : Words) → WordsCode text words a ws → list_all all_in (chain_of words a) ≡ all_literals ws
-  all_literals_of a ws h = all_literals_in (length words + 1) a ws (chain_bound words (word_count ws) a (words_chain a ws h)) h
+  pub all_literals_of : (a : ℕ) (ws : Words) → WordsCode text words a ws → all_literals_at words a ≡ all_literals ws
+  all_literals_of a ws h =
+      ap (λ b. list_all all_in (chain_of words a) && b) (words_end a ws h)
+      ∙ and-true (list_all all_in (chain_of words a))
+      ∙ all_literals_in (length words + 1) a ws (chain_bound words (word_count ws) a (words_chain a ws h)) h
 
   -- a part more of a name, of which `left` is left
   pub name_more : (a : ℕ) (xs ys left part after : List ℕ) → xs ≡ a ∷ ys → part ≡ bytes_at text words (a + 2) → left ≡ part ++ after → same (spelled text words xs) left ≡ same (spelled text words ys) after
@@ -94,15 +107,15 @@ module _ (text words : List ℕ) where
   covered_none a z no_words h = refl
   covered_none a z (and_word w ws) h = absurd (omega (arith, h.0))
 
-  pub covered_no : (a : ℕ) → list_all all_in (chain_of words a) ≡ false → WordsSays text words a false
+  pub covered_no : (a : ℕ) → all_literals_at words a ≡ false → WordsSays text words a false
   covered_no a e ws h = ap (λ x. x && names_covered ws) (sym e ∙ all_literals_of a ws h)
 
-  pub covered_empty : (a p : ℕ) → (a ≡ 0 → ⊥) → list_all all_in (chain_of words a) ≡ true → p ≡ get_or words (a + 1) 0 → p ≡ 0 → WordsSays text words a false
+  pub covered_empty : (a p : ℕ) → (a ≡ 0 → ⊥) → all_literals_at words a ≡ true → p ≡ get_or words (a + 1) 0 → p ≡ 0 → WordsSays text words a false
   covered_empty a p z e f o no_words h = absurd (z h)
   covered_empty a p z e f o (and_word no_parts ws) h = ap (λ x. x && false) (sym e ∙ all_literals_of a (and_word no_parts ws) h)
   covered_empty a p z e f o (and_word (and_part q w) ws) h = absurd (omega (arith, h.1.0))
 
-  pub covered_named : (a p : ℕ) (r : Bool) → (a ≡ 0 → ⊥) → list_all all_in (chain_of words a) ≡ true → p ≡ get_or words (a + 1) 0 → (p ≡ 0 → ⊥) → r ≡ left_out (spelled text words (chain_of words p)) → WordsSays text words a (not r)
+  pub covered_named : (a p : ℕ) (r : Bool) → (a ≡ 0 → ⊥) → all_literals_at words a ≡ true → p ≡ get_or words (a + 1) 0 → (p ≡ 0 → ⊥) → r ≡ left_out (spelled text words (chain_of words p)) → WordsSays text words a (not r)
   covered_named a p r z e f d o no_words h = absurd (z h)
   covered_named a p r z e f d o (and_word no_parts ws) h = absurd (d (f ∙ h.1))
   covered_named a p r z e f d o (and_word (and_part q w) ws) h =

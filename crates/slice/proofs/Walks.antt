@@ -6,13 +6,13 @@ use Rattle.std.proofs.lemmas.Bool.{both_ways, ne_eqb}
 use Rattle.syntax.specs.Tree.{no_assignments, assign, no_redirects, redirect, simple, group, if, while, no_else, else, Pipeline, single, piped, AndOr, first, joined, CommandList, end, next}
 use Rattle.syntax.specs.Depth.{list_depth, and_or_depth, pipeline_depth}
 use Rattle.code.specs.Layout.{flag}
-use Rattle.code.specs.Chains.{cells, chain_of}
+use Rattle.code.specs.Chains.{cells, chain_of, ends_at}
 use Rattle.code.specs.Cells.{CommandIs, item_at, said}
 use Rattle.code.specs.declared.cells.Item.{Item}
 use Rattle.code.specs.declared.cells.Command.{Command}
 use Rattle.code.specs.declared.cells.Command.TheVariants.{Simple, Group, If, While}
 use Rattle.code.specs.Code.{WordsCode, ElseCode, PipelineCode, AndOrCode, ListCode}
-use Rattle.code.proofs.Chains.{Chain, chain_bound, cells_end, cells_more}
+use Rattle.code.proofs.Chains.{Chain, chain_bound, chain_ends, cells_end, cells_more}
 use Rattle.slice.specs.Slice.{covers_else, covers_pipeline, covers_and_or, covers_list}
 use Rattle.slice.specs.Says.{WordsSays, ListSays, ElseSays, CommandSays, PipelineSays, AndOrSays}
 
@@ -52,6 +52,10 @@ module _ (text words : List ℕ) where
   pipeline_positive a (single c) h = h.0
   pipeline_positive a (piped c p) h = h.0
 
+  and_or_positive : (a : ℕ) (x : AndOr) → AndOrCode text words a x → 0 < a
+  and_or_positive a (first n p) h = h.0
+  and_or_positive a (joined x b n p) h = h.0
+
   commands_chain : (a : ℕ) (l : CommandList) → ListCode text words a l → Chain words (command_count l) a
   commands_chain a end h = h
   commands_chain a (next x b l) h = (h.0, commands_chain (get_or words a 0) l h.3)
@@ -71,6 +75,14 @@ module _ (text words : List ℕ) where
   pipelines_in zero a left (joined x b m p) k h d = absurd (omega arith)
   pipelines_in (suc n) a left (joined x b m p) k h d = (a, cells words n (get_or words a 0), cells_more words n a h.0, h.4, omega arith, pipelines_in n (get_or words a 0) left x (omega arith) h.1 (omega arith))
 
+  -- both come to their end
+  list_ends : (a : ℕ) (l : CommandList) → ListCode text words a l → ends_at words a ≡ true
+  list_ends a l h = chain_ends words (command_count l) a (commands_chain a l h)
+
+  and_or_ends : (a : ℕ) (x : AndOr) → AndOrCode text words a x → ends_at words (get_or words a 0) ≡ true
+  and_or_ends a (first n p) h = chain_ends words zero (get_or words a 0) h.1
+  and_or_ends a (joined x b n p) h = chain_ends words (pipeline_count x) (get_or words a 0) (pipelines_chain (get_or words a 0) x h.1)
+
   -- what is left of a list, or of a chain of && and ||, decides the answer
   pub record ListWalk (xs : List ℕ) (left : ℕ) (l : CommandList) : Type 0 where
     pub rest : CommandList
@@ -86,8 +98,12 @@ module _ (text words : List ℕ) where
   pub list_start : (root left : ℕ) (xs : List ℕ) (l : CommandList) → xs ≡ chain_of words root → ListCode text words root l → list_depth l < left → ListWalk xs left l
   list_start root left xs l e h d = subst (λ ys. ListWalk ys left l) (sym e) (record { rest = l; coded = list_in (length words + 1) root l (chain_bound words (command_count l) root (commands_chain root l h)) h; shallow = d; still = refl })
 
-  pub and_or_start : (last left : ℕ) (xs : List ℕ) (x : AndOr) → xs ≡ chain_of words last → AndOrCode text words last x → and_or_depth x < left → AndOrWalk xs left x
-  and_or_start last left xs x e h d = subst (λ ys. AndOrWalk ys left x) (sym e) (record { rest = pipelines x; coded = pipelines_in (length words + 1) last left x (chain_bound words (pipeline_count x) last (pipelines_chain last x h)) h d; still = pipelines_all x })
+  -- the last of a chain of && and ||, and those before it
+  pub and_or_start : (last before left : ℕ) (xs : List ℕ) (x : AndOr) → before ≡ get_or words last 0 → xs ≡ chain_of words before → AndOrCode text words last x → and_or_depth x < left → AndOrWalk (last ∷ xs) left x
+  and_or_start last before left xs x b e h d =
+      let n : pipeline_count x ≤ suc (length words + 1) = let k = chain_bound words (pipeline_count x) last (pipelines_chain last x h) in omega arith in
+      let c : cells words (suc (length words + 1)) last ≡ last ∷ xs = cells_more words (length words + 1) last (and_or_positive last x h) ∙ ap (λ ys. last ∷ ys) (sym (e ∙ ap (chain_of words) b)) in
+      subst (λ ys. AndOrWalk ys left x) c (record { rest = pipelines x; coded = pipelines_in (suc (length words + 1)) last left x n h d; still = pipelines_all x })
 
   -- a list more, of a command that is given by its cell
   list_there : (p q left : ℕ) (r : Bool) (l : CommandList) → p ≡ q → ListSays text words p left r → ListCode text words q l → list_depth l < left → covers_list l ≡ r
@@ -217,8 +233,8 @@ module _ (text words : List ℕ) where
   list_last xs l end e i t = sym t
   list_last xs l (next x b m) e i t = absurd (cc)
 
-  pub list_end : (left : ℕ) (xs : List ℕ) (l : CommandList) → xs ≡ [] → ListWalk xs left l → true ≡ covers_list l
-  list_end left xs l e w = list_last xs l w.rest e w.coded w.still
+  pub list_end : (root left : ℕ) (r : Bool) (xs : List ℕ) (l : CommandList) → r ≡ ends_at words root → xs ≡ [] → ListCode text words root l → ListWalk xs left l → r ≡ covers_list l
+  list_end root left r xs l o e h w = o ∙ list_ends root l h ∙ list_last xs l w.rest e w.coded w.still
 
   -- one pipeline more of a chain of && and ||
   and_or_turn : (a left : ℕ) (xs ys : List ℕ) (x : AndOr) (rest : List Pipeline) → xs ≡ a ∷ ys → PipelineSays text words (get_or words (a + 3) 0) left true → PipelinesIn left xs rest → covers_and_or x ≡ list_all covers_pipeline rest → AndOrWalk ys left x
@@ -246,8 +262,8 @@ module _ (text words : List ℕ) where
   and_or_last left xs x [] e i t = sym t
   and_or_last left xs x (p ∷ ps) e i t = absurd (cc)
 
-  pub and_or_end : (left : ℕ) (xs : List ℕ) (x : AndOr) → xs ≡ [] → AndOrWalk xs left x → true ≡ covers_and_or x
-  and_or_end left xs x e w = and_or_last left xs x w.rest e w.coded w.still
+  pub and_or_end : (last left : ℕ) (r : Bool) (xs : List ℕ) (x : AndOr) → r ≡ ends_at words (get_or words last 0) → xs ≡ [] → AndOrCode text words last x → AndOrWalk xs left x → r ≡ covers_and_or x
+  and_or_end last left r xs x o e h w = o ∙ and_or_ends last x h ∙ and_or_last left xs x w.rest e w.coded w.still
 
   pub pipeline_no : (at left x : ℕ) → x ≡ get_or words at 0 → (x ≡ 0 → ⊥) → PipelineSays text words at left false
   pipeline_no at left x e d (single c) h o = absurd (d (e ∙ h.2))

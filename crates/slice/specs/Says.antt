@@ -4,19 +4,19 @@ use Rattle.std.specs.List.{flat_map, list_all}
 use Rattle.syntax.specs.Tree.{Words, Command, ElsePart, Pipeline, AndOr, CommandList}
 use Rattle.syntax.specs.Depth.{list_depth, and_or_depth, pipeline_depth, command_depth, else_depth}
 use Rattle.code.specs.Cells.{bytes_at}
-use Rattle.code.specs.Chains.{chain_of}
+use Rattle.code.specs.Chains.{chain_of, ends_at}
 use Rattle.code.specs.Code.{WordsCode, CommandCode, ElseCode, PipelineCode, AndOrCode, ListCode}
 use Rattle.slice.specs.Slice.{all_literals, names_covered, covers_command, covers_else, covers_pipeline, covers_and_or, covers_list}
 
--- whether the cell of a part says that it is a literal; the parts of a word; the words from a on
+-- whether the cell of a part says that it is a literal; the parts of a word, which come to an end; the words from a on
 abbrev pub is_literal : List ℕ → ℕ → Bool
 is_literal words a = nat_le (slice_index words (a + 1)) 1
 
 abbrev pub literals_at : List ℕ → ℕ → Bool
-literals_at words a = list_all (is_literal words) (chain_of words a)
+literals_at words a = list_all (is_literal words) (chain_of words a) && ends_at words a
 
 abbrev pub all_literals_at : List ℕ → ℕ → Bool
-all_literals_at words a = list_all (λ b. literals_at words (slice_index words (b + 1))) (chain_of words a)
+all_literals_at words a = list_all (λ b. literals_at words (slice_index words (b + 1))) (chain_of words a) && ends_at words a
 
 module _ (text words : List ℕ) where
   -- the bytes that stand in these cells, and in those of the parts from a on

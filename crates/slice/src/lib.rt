@@ -1,15 +1,16 @@
 //! Which texts are run: a look at the code before the first move.
 #![tactic(auto)]
 
-ghost use Rattle.std.specs.Prelude.{◌≡◌, ◌≤◌};
+ghost use Rattle.std.specs.Prelude.{◌≡◌, ◌≤◌, ◌+◌, true, slice_index};
 ghost use Rattle.syntax.specs.Base.{same};
 ghost use Rattle.syntax.specs.Tree.{CommandList};
 ghost use Rattle.syntax.specs.Depth.{list_depth};
+ghost use Rattle.code.specs.Chains.{ends_at};
 ghost use Rattle.code.specs.Code.{ListCode};
 ghost use Rattle.slice.specs.Slice.{covers_list, left_out};
 ghost use Rattle.slice.specs.Says.{all_literals_at, is_literal, literals_at, spelled_at, WordsSays, ListSays, ElseSays, CommandSays, PipelineSays, AndOrSays};
 
-use code::{Code, Command, LEVELS, Part};
+use code::{AndOr, Code, Command, LEVELS, Part};
 
 /// Builtins that are not run.
 const LEFT_OUT: [&[u8]; 10] = [
@@ -23,20 +24,21 @@ fn is_literal(code: Code<'_>, at: u32) -> bool
     matches!(code.part(at), Some(Part::Literal { .. }))
 }
 
-/// Whether the parts of a word are literals.
+/// Whether the parts of a word are literals, and come to an end.
 fn literals(code: Code<'_>, parts: u32) -> bool
     ensures { result ≡ literals_at code.entry.words.now parts }
 {
-    code.chain(parts).all(|at| is_literal(code, at))
+    let mut cells = code.chain(parts);
+    cells.all(|at| is_literal(code, at)) && cells.ended()
 }
 
 // One word of a cell is read by its place, where `Code` has no call for it alone; so below.
-/// Whether these words are of literals.
+/// Whether these words are of literals, and come to an end.
 fn all_literals(code: Code<'_>, words: u32) -> bool
     ensures { result ≡ all_literals_at code.entry.words.now words }
 {
-    code.chain(words)
-        .all(|at| literals(code, code.word(at as usize + 1)))
+    let mut cells = code.chain(words);
+    cells.all(|at| literals(code, code.word(at as usize + 1))) && cells.ended()
 }
 
 /// Whether the bytes of a word's parts are this name.
@@ -132,7 +134,8 @@ fn covers_else(code: Code<'_>, at: u32, left: u32) -> bool
 /// Whether a pipeline is run: it is its one command.
 #[cycle(parsing)]
 fn covers_pipeline(code: Code<'_>, at: u32, left: u32) -> bool
-    ensures { PipelineSays code.entry.text.now code.entry.words.now at left result }
+    ensures coded { PipelineSays code.entry.text.now code.entry.words.now at left result }
+    ensures alone { result ≡ true → slice_index code.entry.words.now at ≡ 0 }
 {
     code.word(at as usize) == 0 && covers_command(code, at, left)
 }
@@ -140,34 +143,49 @@ fn covers_pipeline(code: Code<'_>, at: u32, left: u32) -> bool
 /// Whether the pipelines of a chain of && and || are run, from the last to the first.
 #[cycle(parsing)]
 fn covers_and_or(code: Code<'_>, last: u32, left: u32) -> bool
-    ensures { AndOrSays code.entry.text.now code.entry.words.now last left result }
+    ensures coded { AndOrSays code.entry.text.now code.entry.words.now last left result }
+    ensures alone { result ≡ true → slice_index code.entry.words.now (slice_index code.entry.words.now (last + 3)) ≡ 0 }
+    ensures end { result ≡ true → ends_at code.entry.words.now (slice_index code.entry.words.now last) ≡ true }
 {
-    // A `for` here and below: a closure that leads back into the walk owes at each turn that it may be called.
-    for at in code.chain(last) {
+    // Such a chain has one pipeline at least, so the cell at `last` is looked at in any case.
+    let AndOr {
+        before,
+        pipeline,
+        ..
+    } = code.and_or(last);
+    if !covers_pipeline(code, pipeline, left) {
+        return false;
+    }
+    // No `all` here and below: a closure that leads back into the walk owes at each turn that it may be called.
+    let mut earlier = code.chain(before);
+    while let Some(at) = earlier.next() {
         if !covers_pipeline(code, code.and_or(at).pipeline, left) {
             return false;
         }
     }
-    true
+    earlier.ended()
 }
 
 /// Whether the commands of a list are run. Lists may stand fewer than `left` deep in it.
 #[cycle(parsing)]
 fn covers_commands(code: Code<'_>, root: u32, left: u32) -> bool
-    ensures { ListSays code.entry.text.now code.entry.words.now root left result }
+    ensures coded { ListSays code.entry.text.now code.entry.words.now root left result }
+    ensures end { result ≡ true → ends_at code.entry.words.now root ≡ true }
 {
-    for at in code.chain(root) {
+    let mut items = code.chain(root);
+    while let Some(at) = items.next() {
         let item = code.item(at);
         if item.background || !covers_and_or(code, item.and_or, left) {
             return false;
         }
     }
-    true
+    items.ended()
 }
 
 /// Whether all commands of the list whose code begins at `root` are run.
 pub fn covers(code: Code<'_>, root: u32) -> bool
-    ensures { (l : CommandList) → ListCode code.entry.text.now code.entry.words.now root l → list_depth l ≤ 32 → result ≡ covers_list l }
+    ensures coded { (l : CommandList) → ListCode code.entry.text.now code.entry.words.now root l → list_depth l ≤ 32 → result ≡ covers_list l }
+    ensures end { result ≡ true → ends_at code.entry.words.now root ≡ true }
 {
     covers_commands(code, root, LEVELS)
 }

@@ -1,7 +1,7 @@
-use Rattle.std.proofs.Common.{◌+◌, ◌*◌, ◌<◌}
+use Rattle.std.proofs.Common.{◌≡◌, slice_index, ◌+◌, ◌*◌, ◌<◌}
 use Rattle.syntax.specs.Tree.{CommandList, AndOr}
 use Rattle.syntax.specs.Depth.{list_depth, and_or_depth}
-use Rattle.code.specs.Chains.{links_of}
+use Rattle.code.specs.Chains.{ends, ends_at, links_of}
 use Rattle.code.specs.Code.{ListCode, AndOrCode}
 use Rattle.slice.proofs.Walks.{ListWalk, AndOrWalk}
 use Rattle.slice.proofs.+parsing.Given as goal
@@ -23,14 +23,16 @@ decreases-covers_command l = 5 * l.left
 
 abbrev pub invariant-covers_and_or-loop-at : goal.invariant-covers_and_or-loop-at
 invariant-covers_and_or-loop-at l = record {
-  can_next : (goal.iterator-covers_and_or-loop-at).can_next l.at-iterator;
-  is_finite : (goal.iterator-covers_and_or-loop-at).is_finite l.at-iterator;
-  walk : (x : AndOr) → AndOrCode l.code.text.now l.code.words.now l.last x → and_or_depth x < l.left → AndOrWalk l.code.text.now l.code.words.now (links_of l.at-iterator) l.left x;
+  can_next : (goal.iterator-covers_and_or-loop-at).can_next l.earlier;
+  is_finite : (goal.iterator-covers_and_or-loop-at).is_finite l.earlier;
+  end : ends l.earlier ≡ ends_at l.code.words.now (slice_index l.code.words.now l.last);
+  walk : (x : AndOr) → AndOrCode l.code.text.now l.code.words.now l.last x → and_or_depth x < l.left → AndOrWalk l.code.text.now l.code.words.now (links_of l.earlier) l.left x;
 }
 
 abbrev pub invariant-covers_commands-loop-at : goal.invariant-covers_commands-loop-at
 invariant-covers_commands-loop-at l = record {
-  can_next : (goal.iterator-covers_commands-loop-at).can_next l.at-iterator;
-  is_finite : (goal.iterator-covers_commands-loop-at).is_finite l.at-iterator;
-  walk : (x : CommandList) → ListCode l.code.text.now l.code.words.now l.root x → list_depth x < l.left → ListWalk l.code.text.now l.code.words.now (links_of l.at-iterator) l.left x;
+  can_next : (goal.iterator-covers_commands-loop-at).can_next l.items;
+  is_finite : (goal.iterator-covers_commands-loop-at).is_finite l.items;
+  end : ends l.items ≡ ends_at l.code.words.now l.root;
+  walk : (x : CommandList) → ListCode l.code.text.now l.code.words.now l.root x → list_depth x < l.left → ListWalk l.code.text.now l.code.words.now (links_of l.items) l.left x;
 }

@@ -9,8 +9,8 @@ pub loop-at-preserved : goal.loop-at-preserved
 loop-at-preserved c = record {
   can_next = tt;
   is_finite = tt;
-  still = c.loop-at.invariant.still ∙ name_more c.args.code.text.now c.args.code.words.now c.in-Some.at (links_of c.loop-at.at-iterator) (links_of c.next.new.self) c.loop-at.rest.now c.bytes_at.result.now c.in-Some-strip_prefix.after.now c.in-Some.ensures.steps (cc) (strip_prefix_is Decides-eqb c.loop-at.rest.now c.bytes_at.result.now (Some c.in-Some-strip_prefix.after) c.in-Some-strip_prefix.ensures.cases);
+  still = c.loop-at.invariant.still ∙ name_more c.args.code.text.now c.args.code.words.now c.in-Some.at (links_of c.loop-at.at-iterator) (links_of c.next.new.self) c.loop-at.rest.now c.bytes_at.result.now c.in-Some-strip_prefix.after.now c.in-Some.ensures.steps.0 (cc) (strip_prefix_is Decides-eqb c.loop-at.rest.now c.bytes_at.result.now (Some c.in-Some-strip_prefix.after) c.in-Some-strip_prefix.ensures.cases);
 }
 
 pub returns-in_default : goal.returns-in_default
-returns-in_default c = sym (c.loop-at.invariant.still ∙ name_other c.args.code.text.now c.args.code.words.now c.in-Some.at (links_of c.loop-at.at-iterator) (links_of c.next.new.self) c.loop-at.rest.now c.bytes_at.result.now c.in-Some.ensures.steps (cc) (strip_prefix_is Decides-eqb c.loop-at.rest.now c.bytes_at.result.now None c.in_default.ensures.cases))
+returns-in_default c = sym (c.loop-at.invariant.still ∙ name_other c.args.code.text.now c.args.code.words.now c.in-Some.at (links_of c.loop-at.at-iterator) (links_of c.next.new.self) c.loop-at.rest.now c.bytes_at.result.now c.in-Some.ensures.steps.0 (cc) (strip_prefix_is Decides-eqb c.loop-at.rest.now c.bytes_at.result.now None c.in_default.ensures.cases))
