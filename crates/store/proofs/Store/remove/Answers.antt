@@ -23,6 +23,7 @@ returns-then-i-last c =
     let e = rw (← c.self.view_is, c.count-last.ensures) at c.swap.ensures in
     let f = rw c.count-last.ensures at c.free.ensures in
     rw (← c.self.view_is, c.count-last.ensures) (record {
+      held = f.held;
       dense = removed_dense s v i t _ _ e.same f.same;
       same = removed_same s v i t _ _ e.same f.same;
       after = removed_after s v i t _ _ _ e.says e.after f.after;
@@ -40,6 +41,7 @@ returns c =
     let e = rw (← c.self.view_is, c.count-last.ensures) at c.swap.ensures in
     let f = rw c.count-last.ensures at c.free.ensures in
     rw (← c.self.view_is) (record {
+      held = f.held;
       dense = removed_dense s v i t _ _ e.same f.same;
       same = removed_same s v i t _ _ e.same f.same;
       after = removed_after s v i t _ _ _ e.says e.after f.after;

@@ -16,6 +16,7 @@ returns-then-k-n c =
     let m = c.args.i + c.args.k in
     let x = extent_count s v in
     rw (← c.self.view_is) (record {
+      held = v;
       there = extent_there s v;
       dense = rw (← c.self.view_is) at c.requires.dense;
       same = rw (x, lt-leb m n (omega (arith, q, c.if-k-n.true)));
@@ -34,6 +35,7 @@ returns-then-i-from c =
     let m = c.args.i + c.args.k in
     let x = extent_count s v in
     rw (← c.self.view_is) (record {
+      held = v;
       there = extent_there s v;
       dense = rw (← c.self.view_is) at c.requires.dense;
       same = rw (x, lt-leb m n (omega (arith, q, c.if-i-from.true)));
@@ -59,7 +61,7 @@ loop-q-preserved c =
     let e = c.remove.ensures in
     let j = c.loop-q.q in
     given_step c.args.self.now c.loop-q.self c.remove.new.self c.args.i (c.count-n.result - c.args.k) c.args.k j (j - 1) c.loop-q.invariant
-    (omega arith) c.if-i-from.false e.same e.after e.cost
+    (omega arith) c.if-i-from.false e.held e.same e.after e.cost
 
 pub returns-then-i-from-2 : goal.returns-then-i-from-2
 unfolding Held
@@ -74,6 +76,7 @@ returns-then-i-from-2 c =
     let g = given_all s c.loop-q.self c.args.i (n - c.args.k) c.args.k c.loop-q.q y (omega arith) in
     let h : m ≤ n = omega (arith, c.if-k-n.false, c.if-i-from.false, q) in
     rw (← c.self.view_is) (record {
+      held = y.held;
       there = extent_there s v;
       dense = given_dense s c.loop-q.self c.args.i (n - c.args.k) c.args.k c.loop-q.q y;
       same = rw (x, le-leb m n h) g.0;
@@ -95,6 +98,7 @@ returns c =
     let g = given_all s c.loop-q.self c.args.i (n - c.args.k) c.args.k c.loop-q.q y (omega arith) in
     let h : m ≤ n = omega (arith, c.if-k-n.false, c.if-i-from.false, q) in
     rw (← c.self.view_is) (record {
+      held = y.held;
       there = extent_there s v;
       dense = given_dense s c.loop-q.self c.args.i (n - c.args.k) c.args.k c.loop-q.q y;
       same = rw (x, le-leb m n h) g.0;
