@@ -10,6 +10,7 @@ empty_inv : (all : ℕ) → 64 ≤ all → all < 2 ^ 61 → Inv (record { lent =
 unfolding segs need
 empty_inv all p q =
     record {
+      laid = record { table = omega arith; fits = λ i a. absurd (omega arith); above = λ i a. absurd (omega arith); below = λ i a. absurd (omega arith); apart = λ i j a. absurd (omega arith) };
       within = λ i a b. absurd (omega arith);
       side = inl refl;
       floor = omega arith;

@@ -46,7 +46,7 @@ invariant_of-self c =
     let y : Reserved s u i c.len-more.result = rw (← c.self.view_is) at c.in_ok-reserve.ensures.after in
     let z : Reserved s u i (length xs) = rw q at y in
     let l : (nth u.table c.args.j).words ≡ xs = shifted_list s u v z.shifted c.args.j in
-    rw (c.append_segment.ensures, l) (grew_inv s u i xs v z _ (rw q))
+    rw (c.append_segment.ensures.after, l) (grew_inv s u i xs v z _ (rw q) (rw (c.append_segment.ensures.after, l) at c.append_segment.ensures.laid))
 
 pub returns : goal.returns
 unfolding Held bounds model spent
@@ -60,8 +60,8 @@ returns c =
     let y : Reserved s u i c.len-more.result = rw (← c.self.view_is) at c.in_ok-reserve.ensures.after in
     let z : Reserved s u i (length xs) = rw q at y in
     let l : (nth u.table c.args.j).words ≡ xs = shifted_list s u v z.shifted c.args.j in
-    rw (c.append_segment.ensures, l) (record {
-      held = grew_inv s u i xs v z _ (rw q);
+    rw (c.append_segment.ensures.after, l) (record {
+      held = grew_inv s u i xs v z _ (rw q) (rw (c.append_segment.ensures.after, l) at c.append_segment.ensures.laid);
       same = grew_bounds s u i xs v z;
       after = grew_model s u i xs v z;
       says = rw (← q) c.in_ok-reserve.ensures.says;

@@ -46,6 +46,6 @@ returns c =
       dense = dense_taken_at _ _ n k x (omega (arith, c.if-k-spare.false, p, length_lives s.table s.half (few _ _ _ _ _ _ v))) t.live;
       same = rw x (ap₂ (λ (h : ℕ) (y : List Bool). (h, y)) t.half t.live);
       after = t.same;
-      says = rw (enough_yes _ _ _ _ _ _ v (8 * k) (omega (arith, c.if-k-spare.false, p)), x, c.count-first.ensures);
+      says = rw (enough_yes _ _ _ _ _ _ v (8 * k) (omega (arith, c.if-k-spare.false, p)), x, c.count-first.ensures.is);
       cost = t.cost;
     })

@@ -29,7 +29,7 @@ invariant_of-self c =
     let v : Sound u = c.self.invariant in
     let xs = c.args.v ∷ [] in
     let z : Reserved s u c.args.i (length xs) = rw (← c.self.view_is) at c.in_ok-reserve.ensures.after in
-    rw c.append_word.ensures (grew_inv s u c.args.i xs v z _ refl)
+    rw c.append_word.ensures.after (grew_inv s u c.args.i xs v z _ refl (rw c.append_word.ensures.after at c.append_word.ensures.laid))
 
 pub returns : goal.returns
 unfolding Held bounds model spent
@@ -39,8 +39,8 @@ returns c =
     let v : Sound u = c.self.invariant in
     let xs = c.args.v ∷ [] in
     let z : Reserved s u c.args.i (length xs) = rw (← c.self.view_is) at c.in_ok-reserve.ensures.after in
-    rw c.append_word.ensures (record {
-      held = grew_inv s u c.args.i xs v z _ refl;
+    rw c.append_word.ensures.after (record {
+      held = grew_inv s u c.args.i xs v z _ refl (rw c.append_word.ensures.after at c.append_word.ensures.laid);
       same = grew_bounds s u c.args.i xs v z;
       after = grew_model s u c.args.i xs v z;
       says = c.in_ok-reserve.ensures.says;

@@ -15,7 +15,7 @@ invariant_of-self c =
     let x = set (nth s.table i).words c.args.j c.args.v in
     let d : (nth s.table i).used ≡ false → x ≡ [] = λ u. rw (v.empty i u) in
     let l = length-set (nth s.table i).words c.args.j c.args.v in
-    rw c.put.ensures (changed_inv _ _ _ _ _ _ v i s.total x d (omega (arith, l)) v.bound)
+    rw c.put.ensures.after (changed_inv _ _ _ _ _ _ v i s.total x d (omega (arith, l)) v.bound (rw c.put.ensures.after at c.put.ensures.laid))
 
 pub returns : goal.returns
 unfolding Held model bounds spent
@@ -26,8 +26,8 @@ returns c =
     let x = set (nth s.table i).words c.args.j c.args.v in
     let d : (nth s.table i).used ≡ false → x ≡ [] = λ u. rw (v.empty i u) in
     let l = length-set (nth s.table i).words c.args.j c.args.v in
-    rw (← c.self.view_is, c.put.ensures) (record {
-      held = changed_inv _ _ _ _ _ _ v i s.total x d (omega (arith, l)) v.bound;
+    rw (← c.self.view_is, c.put.ensures.after) (record {
+      held = changed_inv _ _ _ _ _ _ v i s.total x d (omega (arith, l)) v.bound (rw c.put.ensures.after at c.put.ensures.laid);
       same = changed_bounds _ _ _ _ _ _ v i s.total x d;
       after = rw lists_at (changed_model _ _ _ _ _ _ v i s.total x d);
       cost = omega (

@@ -35,7 +35,7 @@ invariant_of-self c =
     let v : Sound s = c.self.invariant in
     let a = live_back s.table s.half c.args.i (sym (rw (← c.self.view_is) at c.if-not-in_use.ensures.says)) in
     let b = live_back s.table s.half c.args.j (sym (rw (← c.self.view_is) at c.if-not-in_use-2.ensures.says)) in
-    rw c.exchange.ensures (exchanged_inv _ _ _ _ _ _ v _ _ c.if-i-j.false a.1 b.1)
+    rw c.exchange.ensures.after (exchanged_inv _ _ _ _ _ _ v _ _ c.if-i-j.false a.1 b.1 (rw c.exchange.ensures.after at c.exchange.ensures.laid))
 
 pub returns : goal.returns
 unfolding Held bounds model spent
@@ -44,8 +44,8 @@ returns c =
     let v : Sound s = c.self.invariant in
     let a = live_back s.table s.half c.args.i (sym (rw (← c.self.view_is) at c.if-not-in_use.ensures.says)) in
     let b = live_back s.table s.half c.args.j (sym (rw (← c.self.view_is) at c.if-not-in_use-2.ensures.says)) in
-    rw (← c.self.view_is, c.exchange.ensures) (record {
-      held = exchanged_inv _ _ _ _ _ _ v _ _ c.if-i-j.false a.1 b.1;
+    rw (← c.self.view_is, c.exchange.ensures.after) (record {
+      held = exchanged_inv _ _ _ _ _ _ v _ _ c.if-i-j.false a.1 b.1 (rw c.exchange.ensures.after at c.exchange.ensures.laid);
       same = ap (λ (y : List Bool). (s.half, y)) (exchanged_lives _ _ _ _ _ _ v _ _ c.if-i-j.false a.1 b.1);
       after = exchanged_lists _ _ _ _ _ _ v _ _ c.if-i-j.false a.1 b.1;
       says = rw (← rw (← c.self.view_is) at c.if-not-in_use.ensures.says, ← rw (← c.self.view_is) at c.if-not-in_use-2.ensures.says);

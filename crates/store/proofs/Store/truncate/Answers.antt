@@ -58,7 +58,7 @@ invariant_of-self c =
     let d : (nth s.table i).used ≡ false → x ≡ [] = λ u. rw (v.empty i u) (take_all m [] (omega arith)) in
     let l : length x ≡ m = length-take-le m (nth s.table i).words (omega arith) in
     let b = size_le _ _ _ _ _ _ v i in
-    rw c.cut.ensures (changed_inv _ _ _ _ _ _ v i (s.total - (c.len-len.result - m)) x d (omega arith) (omega (arith, v.bound)))
+    rw c.cut.ensures.after (changed_inv _ _ _ _ _ _ v i (s.total - (c.len-len.result - m)) x d (omega arith) (omega (arith, v.bound)) (rw c.cut.ensures.after at c.cut.ensures.laid))
 
 pub returns : goal.returns
 unfolding Held model bounds spent
@@ -73,8 +73,8 @@ returns c =
     let d : (nth s.table i).used ≡ false → x ≡ [] = λ u. rw (v.empty i u) (take_all m [] (omega arith)) in
     let l : length x ≡ m = length-take-le m (nth s.table i).words (omega arith) in
     let b = size_le _ _ _ _ _ _ v i in
-    rw (← c.self.view_is, c.cut.ensures) (record {
-      held = changed_inv _ _ _ _ _ _ v i (s.total - (c.len-len.result - m)) x d (omega arith) (omega (arith, v.bound));
+    rw (← c.self.view_is, c.cut.ensures.after) (record {
+      held = changed_inv _ _ _ _ _ _ v i (s.total - (c.len-len.result - m)) x d (omega arith) (omega (arith, v.bound)) (rw c.cut.ensures.after at c.cut.ensures.laid);
       same = changed_bounds _ _ _ _ _ _ v i s.total x d;
       after = rw lists_at (changed_model _ _ _ _ _ _ v i s.total x d);
       cost = omega (
