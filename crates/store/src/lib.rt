@@ -93,8 +93,8 @@ impl Store<'_> {
 
     /// How long list i is, and 0 where there is none.
     pub fn len(&self, i: usize) -> usize
-        ensures held { Held self.now }
         ensures is { result ≡ length (slice_index_or (model self.now) i []) }
+        ensures held { Held self.now }
     {
         self.segments.len(i)
     }

@@ -5,4 +5,4 @@ use Rattle.store.proofs.Store.len.Goals as goal
 
 pub returns : goal.returns
 unfolding Held model
-returns c = rw (← c.self.view_is) (record { held = c.self.invariant; is = c.len.ensures.is ∙ sym (ap length (lists_at c.self.inside.segments c.self.inside.half c.args.i)) })
+returns c = rw (← c.self.view_is) (record { is = c.len.ensures.is ∙ sym (ap length (lists_at c.self.inside.segments c.self.inside.half c.args.i)); held = c.self.invariant })
