@@ -5,7 +5,7 @@ use Rattle.std.proofs.lemmas.List.FromFn.{get_or-map-range_with_len, length-map-
 use Rattle.std.proofs.lemmas.Bool.{cases_eq, cases_lt, eq-eqb, ne_eqb}
 use Rattle.std.specs.List.{range_with_len}
 use Rattle.segments.specs.Layout.{start, size, room, mark, seg, segs, Good, Changed, Moved, Exchanged, Opened, Marked, entry, table}
-use Rattle.segments.specs.Table.{Segment, Table, none, nth, placed, written, moved, marked, exchanged, opened, as_used, Retired}
+use Rattle.segments.specs.Table.{Segment, Table, none, nth, placed, written, moved, marked, exchanged, opened, as_used, Retired, Laid}
 use Rattle.segments.proofs.Table.{segs_at, length_segs}
 use Rattle.segments.proofs.SegmentLaws.{length_seg}
 use Rattle.segments.proofs.Placed.{nth_same, nth_other, nth_past}
@@ -41,6 +41,21 @@ module _ (w : List ℕ) (n k : ℕ) (h : k < n) where
 
   pub size_is : Good w n → length (nth (table w n) k).words ≡ size w k
   size_is g = ap length words_are ∙ length_seg w n g k h
+
+-- how the words lie, by what they say
+pub good_laid : (w : List ℕ) (n : ℕ) → Good w n → Laid (table w n)
+good_laid w n g =
+    let c = count_is w n in
+    record {
+      table = omega (arith, c, lent_is w n, g.table);
+      fits = λ i h. let l : i < n = omega (arith, c) in omega (arith, size_is w n i l g, room_is w n i l, g.fits i l);
+      above = λ i h. let l : i < n = omega (arith, c) in omega (arith, c, start_is w n i l, g.above i l);
+      below = λ i h. let l : i < n = omega (arith, c) in omega (arith, lent_is w n, start_is w n i l, room_is w n i l, g.below i l);
+      apart = λ i j h k ne.
+          let l : i < n = omega (arith, c) in
+          let m : j < n = omega (arith, c) in
+          rw (start_is w n i l, room_is w n i l, start_is w n j m, room_is w n j m) (g.apart i j l m ne);
+    }
 
 pub segs_are : (w : List ℕ) (n k : ℕ) → get_or (segs w n) k [] ≡ (nth (table w n) k).words
 segs_are w n k = ⊎_elim

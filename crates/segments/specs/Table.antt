@@ -1,5 +1,5 @@
 -- Segments in lent words, by what they hold.
-use Rattle.std.specs.Prelude.{◌≡◌, ℕ, zero, suc, ◌+◌, ◌-◌, ◌*◌, ◌<◌, ◌≤◌, Bool, true, false, ◌⊎◌, List, [], ◌∷◌, ◌++◌, map, length, slice_index_or, slice_set}
+use Rattle.std.specs.Prelude.{◌≡◌, ℕ, zero, suc, ◌+◌, ◌-◌, ◌*◌, ◌<◌, ◌≤◌, Bool, true, false, ◌≢◌, ◌⊎◌, List, [], ◌∷◌, ◌++◌, map, length, slice_index_or, slice_set}
 
 -- where a segment begins, how many words it has room for, its words, and whether it is in use
 pub record Segment : Type 0 where
@@ -59,6 +59,15 @@ pub record Retired (t t' : Table) (i : ℕ) : Type 0 where
   pub before : (k : ℕ) → k < length t'.segments → nth t' k ≡ nth (marked t i false) k
   pub behind : (k : ℕ) → length t'.segments ≤ k → (nth (marked t i false) k).used ≡ false
   pub last : (length t'.segments ≡ 0) ⊎ ((nth t' (length t'.segments - 1)).used ≡ true)
+
+-- the segments lie behind the table, in the words lent, each with room for its words, and no two of them meet
+pub record Laid (t : Table) : Type 0 where
+  pub table : 8 * length t.segments ≤ t.lent
+  pub fits : (i : ℕ) → i < length t.segments → length (nth t i).words ≤ (nth t i).room
+  pub above : (i : ℕ) → i < length t.segments → 8 * length t.segments ≤ (nth t i).start
+  pub below : (i : ℕ) → i < length t.segments → (nth t i).start + (nth t i).room ≤ t.lent
+  pub apart : (i j : ℕ) → i < length t.segments → j < length t.segments → j ≢ i →
+      ((nth t i).start + (nth t i).room ≤ (nth t j).start) ⊎ ((nth t j).start + (nth t j).room ≤ (nth t i).start)
 
 -- the segments from k on lie in the words from lo up to u
 abbrev pub Within : Table → ℕ → ℕ → ℕ → Type 0

@@ -3,7 +3,7 @@
 
 ghost use Rattle.std.specs.Prelude.{◌≡◌, ℕ, ◌+◌, ◌-◌, ◌*◌, ◌/◌, ◌<◌, ◌≤◌, Bool, true, false, ◌≢◌, ◌⊎◌, List, [], ◌∷◌, ◌++◌, length, take, slice_index, slice_set};
 ghost use Rattle.segments.specs.Layout.{field, filed, place, spread};
-ghost use Rattle.segments.specs.Table.{Segment, nth, segs, marks, Within, Free, written, moved, exchanged, opened, marked, Retired};
+ghost use Rattle.segments.specs.Table.{Segment, nth, segs, marks, Within, Free, written, moved, exchanged, opened, marked, Retired, Laid};
 
 use std::marker::Model;
 use words::{copy_words, put_wide, put_words, wide};
@@ -92,7 +92,8 @@ impl<'a> Segments<'a> {
 impl Segments<'_> {
     /// How many segments there are.
     pub fn count(&self) -> usize
-        ensures { result ≡ length self.now.segments }
+        ensures laid { Laid self.now }
+        ensures is { result ≡ length self.now.segments }
     {
         self.count
     }
@@ -109,7 +110,8 @@ impl Segments<'_> {
 
     /// How many words segment i has, and 0 where there is none.
     pub fn len(&self, i: usize) -> usize
-        ensures { result ≡ length (nth self.now i).words }
+        ensures laid { Laid self.now }
+        ensures is { result ≡ length (nth self.now i).words }
     {
         if i >= self.count {
             return 0;
@@ -150,7 +152,8 @@ impl Segments<'_> {
 
     /// Puts v at j of segment i, if there is such a place.
     pub fn put(&mut self, i: usize, j: usize, v: u32)
-        ensures { self.new ≡ written self.old i (slice_set (nth self.old i).words j v) }
+        ensures laid { Laid self.new }
+        ensures after { self.new ≡ written self.old i (slice_set (nth self.old i).words j v) }
     {
         if j >= self.len(i) {
             return;
@@ -165,7 +168,8 @@ impl Segments<'_> {
     pub fn append_word(&mut self, i: usize, v: u32)
         requires there { i < length self.old.segments }
         requires room { length (nth self.old i).words < (nth self.old i).room }
-        ensures { self.new ≡ written self.old i ((nth self.old i).words ++ (v ∷ [])) }
+        ensures laid { Laid self.new }
+        ensures after { self.new ≡ written self.old i ((nth self.old i).words ++ (v ∷ [])) }
     {
         let w = &mut *self.words;
         let at = read(w, i, Part::Start);
@@ -178,7 +182,8 @@ impl Segments<'_> {
     pub fn append_words(&mut self, i: usize, xs: &[u32])
         requires there { i < length self.old.segments }
         requires room { length (nth self.old i).words + length xs.now ≤ (nth self.old i).room }
-        ensures { self.new ≡ written self.old i ((nth self.old i).words ++ xs.now) }
+        ensures laid { Laid self.new }
+        ensures after { self.new ≡ written self.old i ((nth self.old i).words ++ xs.now) }
     {
         let w = &mut *self.words;
         let at = read(w, i, Part::Start);
@@ -191,7 +196,8 @@ impl Segments<'_> {
     pub fn append_segment(&mut self, i: usize, j: usize)
         requires there { i < length self.old.segments }
         requires room { length (nth self.old i).words + length (nth self.old j).words ≤ (nth self.old i).room }
-        ensures { self.new ≡ written self.old i ((nth self.old i).words ++ (nth self.old j).words) }
+        ensures laid { Laid self.new }
+        ensures after { self.new ≡ written self.old i ((nth self.old i).words ++ (nth self.old j).words) }
     {
         if j >= self.count() {
             return;
@@ -209,7 +215,8 @@ impl Segments<'_> {
     pub fn cut(&mut self, i: usize, m: usize)
         requires there { i < length self.old.segments }
         requires within { m ≤ length (nth self.old i).words }
-        ensures { self.new ≡ written self.old i (take m (nth self.old i).words) }
+        ensures laid { Laid self.new }
+        ensures after { self.new ≡ written self.old i (take m (nth self.old i).words) }
     {
         write(self.words, i, Part::Size, m);
     }
@@ -221,7 +228,8 @@ impl Segments<'_> {
         requires behind_table { 8 * length self.old.segments ≤ to }
         requires in_bounds { to + room ≤ self.old.lent }
         requires free { Free self.old to (to + room) }
-        ensures { self.new ≡ moved self.old i to room }
+        ensures laid { Laid self.new }
+        ensures after { self.new ≡ moved self.old i to room }
     {
         let w = &mut *self.words;
         let at = read(w, i, Part::Start);
@@ -238,6 +246,7 @@ impl Segments<'_> {
         requires apart { (hi + spread (segs self.old) ≤ to) ⊎ (to ≤ lo) }
         requires behind_table { 8 * length self.old.segments + spread (segs self.old) ≤ to }
         requires in_bounds { to ≤ self.old.lent }
+        ensures laid { Laid self.new }
         ensures lent { self.new.lent ≡ self.old.lent }
         ensures same { segs self.new ≡ segs self.old }
         ensures used { marks self.new ≡ marks self.old }
@@ -261,7 +270,8 @@ impl Segments<'_> {
         requires i_there { i < length self.old.segments }
         requires j_there { j < length self.old.segments }
         requires apart { i ≢ j }
-        ensures { self.new ≡ exchanged self.old i j }
+        ensures laid { Laid self.new }
+        ensures after { self.new ≡ exchanged self.old i j }
     {
         trade(self.words, i, j, Part::Start);
         trade(self.words, i, j, Part::Size);
@@ -273,7 +283,8 @@ impl Segments<'_> {
         requires behind_table { 8 * length self.old.segments + 8 ≤ at }
         requires in_bounds { at ≤ self.old.lent }
         requires in_front { (k : ℕ) → k < length self.old.segments → at ≤ (nth self.old k).start }
-        ensures { self.new ≡ opened self.old at }
+        ensures laid { Laid self.new }
+        ensures after { self.new ≡ opened self.old at }
     {
         let n = self.count;
         write(self.words, n, Part::Start, at);
@@ -302,7 +313,8 @@ impl Segments<'_> {
     /// Segment i is in use now.
     pub fn engage(&mut self, i: usize)
         requires { i < length self.old.segments }
-        ensures { self.new ≡ marked self.old i true }
+        ensures laid { Laid self.new }
+        ensures after { self.new ≡ marked self.old i true }
     {
         write(self.words, i, Part::Mark, USED);
     }
@@ -310,7 +322,8 @@ impl Segments<'_> {
     /// Segment i is not in use any more, and the table ends behind the last that is.
     pub fn retire(&mut self, i: usize)
         requires { i < length self.old.segments }
-        ensures { Retired self.old self.new i }
+        ensures laid { Laid self.new }
+        ensures retired { Retired self.old self.new i }
     {
         let count = self.count;
         let w = &mut *self.words;

@@ -48,6 +48,7 @@ module _ (s : Layout) (v : Held s) where
 
 -- j numbers more, behind all others
 pub record Taken (s s' : Layout) (j : ℕ) : Type 0 where
+  pub held : Held s'
   pub half : s'.half ≡ s.half
   pub count : length s'.table.segments ≡ length s.table.segments + j
   pub total : s'.total ≡ s.total
@@ -55,16 +56,17 @@ pub record Taken (s s' : Layout) (j : ℕ) : Type 0 where
   pub same : lists s'.table s'.half ≡ lists s.table s.half
   pub cost : spent s' ≤ spent s + 64 * j
 
-pub taken_none : (s : Layout) → Taken s s 0
+pub taken_none : (s : Layout) → Held s → Taken s s 0
 unfolding marked
-taken_none s = record { half = refl; count = omega arith; total = refl; live = refl; same = refl; cost = omega arith }
+taken_none s v = record { held = v; half = refl; count = omega arith; total = refl; live = refl; same = refl; cost = omega arith }
 
-pub taken_more : (s s₁ s₂ : Layout) (j : ℕ) → Taken s s₁ j → (length s₂.table.segments ≡ length s₁.table.segments + 1) × (s₂.total ≡ s₁.total) →
+pub taken_more : (s s₁ s₂ : Layout) (j : ℕ) → Taken s s₁ j → Held s₂ → (length s₂.table.segments ≡ length s₁.table.segments + 1) × (s₂.total ≡ s₁.total) →
     (s₂.half ≡ s₁.half) × (lives s₂.table s₂.half ≡ set (lives s₁.table s₁.half) (length s₁.table.segments) true) →
     lists s₂.table s₂.half ≡ lists s₁.table s₁.half → spent s₂ ≤ spent s₁ + 64 → Taken s s₂ (j + 1)
 unfolding marked
-taken_more s s₁ s₂ j t n b l c =
+taken_more s s₁ s₂ j t v n b l c =
     record {
+      held = v;
       half = b.0 ∙ t.half;
       count = omega (arith, n.0, t.count);
       total = n.1 ∙ t.total;
@@ -75,6 +77,7 @@ taken_more s s₁ s₂ j t n b l c =
 
 -- all but the first j numbers of a block from `at` on have gone out, and k were there
 pub record Given (s s' : Layout) (i at k j : ℕ) : Type 0 where
+  pub held : Held s'
   pub half : (bounds s').0 ≡ (bounds s).0
   pub live : marked (bounds s').1 at j false ≡ marked (bounds s).1 at k false
   pub same : replaced_block (model s') i at j ≡ replaced_block (model s) i at k
@@ -84,18 +87,19 @@ pub record Given (s s' : Layout) (i at k j : ℕ) : Type 0 where
 pub given_none : (s : Layout) (i at k : ℕ) → Held s → Dense (bounds s).1 → at + k ≡ length s.table.segments → Given s s i at k k
 given_none s i at k v d e =
     let z : at + k ≡ extent (bounds s).1 = e ∙ sym (extent_count s v) in
-    record { half = refl; live = refl; same = refl; front = rw z (dense_front (bounds s).1 d); cost = omega arith }
+    record { held = v; half = refl; live = refl; same = refl; front = rw z (dense_front (bounds s).1 d); cost = omega arith }
 
-pub given_step : (s s₁ s₂ : Layout) (i at k j j' : ℕ) → Given s s₁ i at k j → j ≡ suc j' → i ≤ at →
+pub given_step : (s s₁ s₂ : Layout) (i at k j j' : ℕ) → Given s s₁ i at k j → j ≡ suc j' → i ≤ at → Held s₂ →
     bounds s₂ ≡ cond (get_or (bounds s₁).1 (i + j') false) ((bounds s₁).0, set (bounds s₁).1 (extent (bounds s₁).1 - 1) false) (bounds s₁) →
     model s₂ ≡ cond (get_or (bounds s₁).1 (i + j') false) (replaced (model s₁) (i + j') (extent (bounds s₁).1 - 1)) (model s₁) →
     spent s₂ ≤ spent s₁ → Given s s₂ i at k j'
-given_step s s₁ s₂ i at k j j' g q h e f c =
+given_step s s₁ s₂ i at k j j' g q h v e f c =
     let t = g.front.used (i + j') (omega arith) in
     let x : extent (bounds s₁).1 - 1 ≡ at + j' = omega (arith, front_extent (bounds s₁).1 (at + j) g.front) in
     let b = removed_bounds (bounds s₁) (bounds s₂) (i + j') (at + j') t x e in
     let l : (bounds s₂).1 ≡ set (bounds s₁).1 (at + j') false = ap (λ (p : ℕ × List Bool). p.1) b in
     record {
+      held = v;
       half = ap (λ (p : ℕ × List Bool). p.0) b ∙ g.half;
       live = given_live (bounds s₁).1 (bounds s₂).1 (marked (bounds s).1 at k false) at j j' q l g.live;
       same = given_lists (model s₁) (model s₂) (replaced_block (model s) i at k) i at j j' q (removed_model (bounds s₁).1 (model s₁) (model s₂) (i + j') (at + j') t x f) g.same;

@@ -2,7 +2,7 @@
 use Rattle.std.proofs.Common.{◌≡◌, ℕ, ◌+◌, ◌-◌, ◌*◌, ◌/◌, ◌<◌, ◌≤◌, Bool, true, false, List, [], ◌++◌, length, get_or, set, sym, ap, ◌∙◌, ap₂, arith}
 use Rattle.std.proofs.lemmas.List.{length-append, length-set}
 use Rattle.std.proofs.lemmas.Bool.{false≢true}
-use Rattle.segments.specs.Table.{Segment, nth, written, strain}
+use Rattle.segments.specs.Table.{Segment, nth, written, strain, Laid}
 use Rattle.store.specs.Layout.{Layout, lists, lives}
 use Rattle.store.specs.Held.{Sound, Shifted, Reserved, pressed}
 use Rattle.segments.proofs.Placed.{words_same}
@@ -50,10 +50,10 @@ module _ (s u : Layout) (i : ℕ) (xs : List ℕ) (v : Sound u) (z : Reserved s 
   pub inside : i < length u.table.segments
   inside = there u.table i live
 
-  pub grew_inv : (total : ℕ) → total ≡ u.total + length xs → Sound (grown total)
-  grew_inv total e = changed_inv u.table u.half u.hi u.low u.total u.hint v i total (before ++ xs) alive
+  pub grew_inv : (total : ℕ) → total ≡ u.total + length xs → Laid (written u.table i (before ++ xs)) → Sound (grown total)
+  grew_inv total e g = changed_inv u.table u.half u.hi u.low u.total u.hint v i total (before ++ xs) alive
       (omega (arith, length-append before xs))
-      (rw (e, z.shifted.total, z.shifted.half, same_count u.table s.table z.shifted.same) (grew_bound s.total (length xs) (length s.table.segments) s.half (length (nth s.table i).words) z.spare))
+      (rw (e, z.shifted.total, z.shifted.half, same_count u.table s.table z.shifted.same) (grew_bound s.total (length xs) (length s.table.segments) s.half (length (nth s.table i).words) z.spare)) g
 
   pub grew_model : lists (written u.table i (before ++ xs)) u.half ≡ set (lists s.table s.half) i (get_or (lists s.table s.half) i [] ++ xs)
   grew_model = changed_model u.table u.half u.hi u.low u.total u.hint v i u.total (before ++ xs) alive ∙

@@ -4,7 +4,7 @@ use Rattle.std.specs.List.{prefix_len}
 use Rattle.std.proofs.lemmas.List.{length-set, length-append, get_or_append_left, get_or-append_right, get_or-set_other}
 use Rattle.std.proofs.lemmas.Bool.{cases_eq, cases_lt, false≢true}
 use Rattle.segments.specs.Layout.{need}
-use Rattle.segments.specs.Table.{Segment, Table, none, nth, segs, placed, marked, as_used, exchanged, opened, Retired, tense, upto, strain}
+use Rattle.segments.specs.Table.{Segment, Table, none, nth, segs, placed, marked, as_used, exchanged, opened, Retired, tense, upto, strain, Laid}
 use Rattle.store.specs.Layout.{lists, lives, Inv}
 use Rattle.segments.proofs.Placed.{nth_same, nth_other, nth_past, segs_at, segs_placed, length_segs}
 use Rattle.segments.proofs.Moves.{need_set}
@@ -17,6 +17,7 @@ module _ (t : Table) (half hi low total hint : ℕ) (v : Inv t half hi low total
   pub hinted_inv : ((k : ℕ) → k < length t.segments → (nth t k).used ≡ true) → Inv t half hi low total (length t.segments)
   hinted_inv all =
       record {
+        laid = v.laid;
         within = v.within;
         side = v.side;
         floor = v.floor;
@@ -66,9 +67,10 @@ module _ (t : Table) (half hi low total hint : ℕ) (v : Inv t half hi low total
     opened_lives = lives_set t (opened t low) half (length t.segments) true (few _ _ _ _ _ _ v) (omega (arith, opened_count))
         (ap (λ (s : Segment). s.used) opened_new) (λ k q. ap (λ (s : Segment). s.used) (opened_at k q))
 
-    pub opened_inv : Inv (opened t low) half hi low total hint
-    opened_inv =
+    pub opened_inv : Laid (opened t low) → Inv (opened t low) half hi low total hint
+    opened_inv g =
         record {
+          laid = g;
           within = λ k z kn. ⊎_elim
               (λ (q : k ≡ length t.segments). rw (q, opened_new) (omega arith, omega (arith, v.ceil)))
               (λ (q : k ≢ length t.segments). rw (opened_at k q) (v.within k z (omega (arith, opened_count))))
@@ -138,9 +140,10 @@ module _ (t : Table) (half hi low total hint : ℕ) (v : Inv t half hi low total
         (λ (q : k ≢ i). ap (λ (s : Segment). s.used) (engaged_at k q) ∙ u)
         (cases_eq k i)
 
-    pub engaged_inv : Inv (marked t i true) half hi low total (i + 1)
-    engaged_inv =
+    pub engaged_inv : Laid (marked t i true) → Inv (marked t i true) half hi low total (i + 1)
+    engaged_inv g =
         record {
+          laid = g;
           within = λ k z kn. rw ((engaged_same k).0, (engaged_same k).1) (v.within k z (rw engaged_count at kn));
           side = v.side;
           floor = omega (arith, v.floor, engaged_count);
@@ -226,9 +229,10 @@ module _ (t : Table) (half hi low total hint : ℕ) (v : Inv t half hi low total
         (λ (q : min hint i ≤ length t'.segments). q)
         (cases_lt (length t'.segments) (min hint i))
 
-    pub retired_inv : Inv t' half hi low total (min hint i)
-    retired_inv =
+    pub retired_inv : Laid t' → Inv t' half hi low total (min hint i)
+    retired_inv g =
         record {
+          laid = g;
           within = λ k z kn. rw (r.before k kn, (gone_same k).0, (gone_same k).1) (v.within k z (omega (arith, r.within)));
           side = v.side;
           floor = omega (arith, v.floor, r.within);
@@ -318,9 +322,10 @@ module _ (t : Table) (half hi low total hint : ℕ) (v : Inv t half hi low total
           ap (length {A = ℕ}) (segs_at t j),
         )
 
-    pub exchanged_inv : Inv (exchanged t i j) half hi low total hint
-    exchanged_inv =
+    pub exchanged_inv : Laid (exchanged t i j) → Inv (exchanged t i j) half hi low total hint
+    exchanged_inv g =
         record {
+          laid = g;
           within = λ k z kn. from k (λ s. (low ≤ s.start) × (s.start + s.room ≤ hi)) (λ p. v.within j (omega arith) (there t j b)) (λ q. v.within i (omega arith) (there t i a))
               (λ p q. v.within k z (rw exchanged_count at kn));
           side = v.side;

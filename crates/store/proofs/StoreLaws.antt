@@ -3,7 +3,7 @@ use Rattle.std.proofs.Common.{◌≡◌, ℕ, ◌+◌, ◌-◌, ◌*◌, ◌/◌
 use Rattle.std.proofs.lemmas.List.{length-set, set-get_or, set_past}
 use Rattle.std.proofs.lemmas.Bool.{cases_eq, cases_lt, le-leb, lt-leb}
 use Rattle.segments.specs.Layout.{need, spread}
-use Rattle.segments.specs.Table.{Segment, Table, nth, segs, marks, placed, written, moved, Within, tense, upto, strain}
+use Rattle.segments.specs.Table.{Segment, Table, nth, segs, marks, placed, written, moved, Within, tense, upto, strain, Laid}
 use Rattle.store.specs.Sums.{extent, enough}
 use Rattle.store.specs.Layout.{Layout, lists, lives, Inv}
 use Rattle.store.specs.Held.{Shifted}
@@ -58,12 +58,13 @@ module _ (t : Table) (half hi low total hint : ℕ) (v : Inv t half hi low total
   size_le i = let e : length (get_or (segs t) i []) ≡ length (nth t i).words = ap length (segs_at t i) in omega (arith, need_at (segs t) i, v.sum)
 
   -- the same segments in use, with the same words, that lie elsewhere
-  pub elsewhere : (t' : Table) (hi' low' : ℕ) → t'.lent ≡ t.lent → segs t' ≡ segs t → marks t' ≡ marks t → Within t' 0 low' hi' →
+  pub elsewhere : (t' : Table) (hi' low' : ℕ) → Laid t' → t'.lent ≡ t.lent → segs t' ≡ segs t → marks t' ≡ marks t → Within t' 0 low' hi' →
       (hi' ≡ half) ⊎ (hi' ≡ half + half) → hi' + 8 * length t.segments ≤ low' + half → low' ≤ hi' → Inv t' half hi' low' total hint
-  elsewhere t' hi' low' l e m within side floor ceil =
+  elsewhere t' hi' low' g l e m within side floor ceil =
       let c = same_count t' t e in
       let u = same_used t' t m in
       record {
+        laid = g;
         within = within;
         side = side;
         floor = omega arith;
@@ -110,10 +111,11 @@ module _ (t : Table) (half hi low total hint : ℕ) (v : Inv t half hi low total
         (λ (h : length t.segments ≤ i). omega (arith, v.sum, ap need (set_past (segs t) i x (omega (arith, length_segs t))), ap (length {A = ℕ}) (past h), ap (λ (s : Segment). length s.words) (nth_past t i h)))
         (cases_lt i (length t.segments)))
 
-    pub changed_inv : total' + length (nth t i).words ≡ total + length x → total' + total' / 4 + 8 * length t.segments + half / 8 ≤ half → Inv (written t i x) half hi low total' hint
-    changed_inv e b =
+    pub changed_inv : total' + length (nth t i).words ≡ total + length x → total' + total' / 4 + 8 * length t.segments + half / 8 ≤ half → Laid (written t i x) → Inv (written t i x) half hi low total' hint
+    changed_inv e b g =
         let c = length-set t.segments i one in
         record {
+          laid = g;
           within = λ k z kn. rw ((kept k).0, (kept k).1) (v.within k z (omega arith));
           side = v.side;
           floor = omega (arith, v.floor);
@@ -152,9 +154,9 @@ module _ (t : Table) (half hi low total hint : ℕ) (v : Inv t half hi low total
   spread_few = rw v.sum (spread_le (segs t))
 
   -- all lists lie in the other half
-  pub tidied : (t' : Table) (hi' low' : ℕ) → t'.lent ≡ t.lent → segs t' ≡ segs t → marks t' ≡ marks t → Within t' 0 low' hi' →
+  pub tidied : (t' : Table) (hi' low' : ℕ) → Laid t' → t'.lent ≡ t.lent → segs t' ≡ segs t → marks t' ≡ marks t → Within t' 0 low' hi' →
       low' + spread (segs t) ≡ hi' → (hi' ≡ half) ⊎ (hi' ≡ half + half) → Inv t' half hi' low' total hint
-  tidied t' hi' low' l e m within end side = elsewhere t' hi' low' l e m within side (omega (arith, spread_few, v.bound)) (omega arith)
+  tidied t' hi' low' g l e m within end side = elsewhere t' hi' low' g l e m within side (omega (arith, spread_few, v.bound)) (omega arith)
 
   -- the target of a move to the other half
   pub other_side : ((3 * half - hi) ≡ half) ⊎ ((3 * half - hi) ≡ half + half)
@@ -167,9 +169,9 @@ module _ (t : Table) (half hi low total hint : ℕ) (v : Inv t half hi low total
       v.side
 
   -- list i lies before all others, with room r
-  pub widened : (i to r : ℕ) → i < length t.segments → to + r ≡ low → hi + 8 * length t.segments ≤ to + half → Inv (moved t i to r) half hi to total hint
-  widened i to r h e f =
-      elsewhere (moved t i to r) hi to refl (segs_kept t i _ refl) (marks_kept t i _ refl)
+  pub widened : (i to r : ℕ) → i < length t.segments → to + r ≡ low → hi + 8 * length t.segments ≤ to + half → Laid (moved t i to r) → Inv (moved t i to r) half hi to total hint
+  widened i to r h e f g =
+      elsewhere (moved t i to r) hi to g refl (segs_kept t i _ refl) (marks_kept t i _ refl)
       (λ k z kn. ⊎_elim
       (λ (q : k ≡ i). rw (q, nth_same t i _ h) (omega arith, omega (arith, v.ceil)))
       (λ (q : k ≢ i). let y = v.within k z (rw length-set at kn) in rw (nth_other t i k _ q) (omega (arith, y.0), y.1))

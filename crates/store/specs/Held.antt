@@ -60,6 +60,7 @@ spent s = pressed s 0 + 13 * strain s.table
 
 -- a store in so many words, with nothing in it
 pub record Empty (all : ℕ) (s : Layout) : Type 0 where
+  pub held : Held s
   pub long : 64 ≤ all
   pub numbers : bounds s ≡ (all / 2, replicate (all / 2) false)
   pub none : model s ≡ replicate (all / 2) []

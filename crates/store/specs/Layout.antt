@@ -1,7 +1,7 @@
 -- A store by its fields: the segments, and where they lie.
 use Rattle.std.specs.Prelude.{◌≡◌, ℕ, ◌+◌, ◌-◌, ◌*◌, ◌/◌, ◌^◌, ◌<◌, ◌≤◌, Bool, true, false, ◌⊎◌, List, [], ◌++◌, length, replicate}
 use Rattle.segments.specs.Layout.{need}
-use Rattle.segments.specs.Table.{Table, nth, segs, marks, Within}
+use Rattle.segments.specs.Table.{Table, nth, segs, marks, Laid, Within}
 
 -- Half of the words lent; the segments lie in the words from low up to hi; they hold `total` words; those with a number below the hint
 -- are in use; so many words have been moved so far.
@@ -21,8 +21,10 @@ lists t half = segs t ++ replicate (half - length t.segments) []
 unfoldable pub lives : Table → ℕ → List Bool
 lives t half = marks t ++ replicate (half - length t.segments) false
 
--- The lists lie in the words from low up to hi, the end of the first half or of the second, and the table in front of both.
+-- The lists lie in the words from low up to hi, the end of the first half or of the second, and the table in front of both; each has room for
+-- its words, and no two of them meet.
 pub record Inv (t : Table) (half hi low total hint : ℕ) : Type 0 where
+  pub laid : Laid t
   pub within : Within t 0 low hi
   pub side : (hi ≡ half) ⊎ (hi ≡ half + half)
   pub floor : hi + 8 * length t.segments ≤ low + half

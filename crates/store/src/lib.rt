@@ -93,7 +93,8 @@ impl Store<'_> {
 
     /// How long list i is, and 0 where there is none.
     pub fn len(&self, i: usize) -> usize
-        ensures { result ≡ length (slice_index_or (model self.now) i []) }
+        ensures is { result ≡ length (slice_index_or (model self.now) i []) }
+        ensures held { Held self.now }
     {
         self.segments.len(i)
     }
@@ -118,6 +119,7 @@ impl Store<'_> {
 
     /// Puts v at j of list i, if there is such a place.
     pub fn set(&mut self, i: usize, j: usize, v: u32)
+        ensures held { Held self.new }
         ensures same { bounds self.new ≡ bounds self.old }
         ensures after { model self.new ≡ slice_set (model self.old) i (slice_set (slice_index_or (model self.old) i []) j v) }
         ensures cost { spent self.new ≤ spent self.old }
@@ -212,6 +214,7 @@ impl Store<'_> {
 
     /// Room for more words in list i, or a refusal.
     fn reserve(&mut self, i: usize, more: usize) -> Result<(), Refusal>
+        ensures held { Held self.old }
         ensures says { result ≡ told (slice_index_or (bounds self.old).1 i false) (enough (bounds self.old) (model self.old) (asked (length (slice_index_or (model self.old) i []) + more))) }
         ensures after { MatchResult result (λ _. Reserved self.old self.new i more) (λ _. self.new ≡ self.old) }
     {
@@ -234,6 +237,7 @@ impl Store<'_> {
     /// One word more at the end of list i, or a refusal.
     // Not by `extend(i, &[v])`: measured with bench/store, a push took a tenth longer by it.
     pub fn push(&mut self, i: usize, v: u32) -> Result<(), Refusal>
+        ensures held { Held self.new }
         ensures same { bounds self.new ≡ bounds self.old }
         ensures after { MatchResult result (λ _. model self.new ≡ slice_set (model self.old) i (slice_index_or (model self.old) i [] ++ (v ∷ []))) (λ _. model self.new ≡ model self.old) }
         ensures says { result ≡ told (slice_index_or (bounds self.old).1 i false) (enough (bounds self.old) (model self.old) (asked (length (slice_index_or (model self.old) i []) + 1))) }
@@ -247,6 +251,7 @@ impl Store<'_> {
 
     /// The words of a slice more at the end of list i, or a refusal.
     pub fn extend(&mut self, i: usize, xs: &[u32]) -> Result<(), Refusal>
+        ensures held { Held self.new }
         ensures same { bounds self.new ≡ bounds self.old }
         ensures after { MatchResult result (λ _. model self.new ≡ slice_set (model self.old) i (slice_index_or (model self.old) i [] ++ xs.now)) (λ _. model self.new ≡ model self.old) }
         ensures says { result ≡ told (slice_index_or (bounds self.old).1 i false) (enough (bounds self.old) (model self.old) (asked (length (slice_index_or (model self.old) i []) + length xs.now))) }
@@ -260,6 +265,7 @@ impl Store<'_> {
 
     /// The words of list j more at the end of list i, or a refusal; list j stays, and may be list i.
     pub fn append(&mut self, i: usize, j: usize) -> Result<(), Refusal>
+        ensures held { Held self.new }
         ensures same { bounds self.new ≡ bounds self.old }
         ensures after { MatchResult result (λ _. model self.new ≡ slice_set (model self.old) i (slice_index_or (model self.old) i [] ++ slice_index_or (model self.old) j [])) (λ _. model self.new ≡ model self.old) }
         ensures says { result ≡ told (slice_index_or (bounds self.old).1 i false) (enough (bounds self.old) (model self.old) (asked (length (slice_index_or (model self.old) i []) + length (slice_index_or (model self.old) j [])))) }
@@ -274,6 +280,7 @@ impl Store<'_> {
 
     /// Keeps the first m words of list i, or all where it has fewer.
     pub fn truncate(&mut self, i: usize, m: usize)
+        ensures held { Held self.new }
         ensures same { bounds self.new ≡ bounds self.old }
         ensures after { model self.new ≡ slice_set (model self.old) i (take m (slice_index_or (model self.old) i [])) }
         ensures cost { spent self.new ≤ spent self.old }
@@ -288,6 +295,7 @@ impl Store<'_> {
 
     /// Nothing is left in list i.
     pub fn clear(&mut self, i: usize)
+        ensures held { Held self.new }
         ensures same { bounds self.new ≡ bounds self.old }
         ensures after { model self.new ≡ slice_set (model self.old) i [] }
         ensures cost { spent self.new ≤ spent self.old }
@@ -297,6 +305,7 @@ impl Store<'_> {
 
     /// The last word of list i, which is taken off, if there is one.
     pub fn pop(&mut self, i: usize) -> Option<u32>
+        ensures held { Held self.new }
         ensures same { bounds self.new ≡ bounds self.old }
         ensures after { model self.new ≡ slice_set (model self.old) i (take (length (slice_index_or (model self.old) i []) - 1) (slice_index_or (model self.old) i [])) }
         ensures last { result ≡ final (slice_index_or (model self.old) i []) }
@@ -323,6 +332,7 @@ impl Store<'_> {
     /// One entry more in the table, for an empty list, where there is room.
     fn enlarge(&mut self)
         requires fits { self.old.total + self.old.total / 4 + 8 * length self.old.table.segments + self.old.half / 8 + 8 ≤ self.old.half }
+        ensures held { Held self.new }
         ensures counts { (length self.new.table.segments ≡ length self.old.table.segments + 1) × (self.new.total ≡ self.old.total) }
         ensures bounds { (self.new.half ≡ self.old.half) × (lives self.new.table self.new.half ≡ slice_set (lives self.old.table self.old.half) (length self.old.table.segments) true) }
         ensures same { lists self.new.table self.new.half ≡ lists self.old.table self.old.half }
@@ -335,6 +345,7 @@ impl Store<'_> {
 
     /// A list that was not in use, with the smallest such number; it is empty. None where the table would have to grow and there is no room.
     pub fn fresh(&mut self) -> Option<usize>
+        ensures held { Held self.new }
         ensures same { bounds self.new ≡ (if is_some result then ((bounds self.old).0, slice_set (bounds self.old).1 (prefix_len (λ b. b) (bounds self.old).1) true) else bounds self.old) }
         ensures after { model self.new ≡ model self.old }
         ensures says { result ≡ (if nat_lt (prefix_len (λ b. b) (bounds self.old).1) (extent (bounds self.old).1) || enough (bounds self.old) (model self.old) 8 then Some (prefix_len (λ b. b) (bounds self.old).1) else None) }
@@ -358,6 +369,7 @@ impl Store<'_> {
 
     /// k empty lists with numbers in a row, behind all that are in use; the answer is the first of them. None where there is no room for all of them.
     pub fn fresh_block(&mut self, k: usize) -> Option<usize>
+        ensures held { Held self.new }
         ensures same { bounds self.new ≡ (if is_some result then ((bounds self.old).0, marked (bounds self.old).1 (extent (bounds self.old).1) k true) else bounds self.old) }
         ensures after { model self.new ≡ model self.old }
         ensures says { result ≡ offered_block (bounds self.old) (model self.old) k }
@@ -379,6 +391,7 @@ impl Store<'_> {
     fn release(&mut self, i: usize)
         requires there { i < length self.old.table.segments }
         requires bare { (nth self.old.table i).words ≡ [] }
+        ensures held { Held self.new }
         ensures bounds { (self.new.half ≡ self.old.half) × (lives self.new.table self.new.half ≡ slice_set (lives self.old.table self.old.half) i false) }
         ensures same { lists self.new.table self.new.half ≡ lists self.old.table self.old.half }
         ensures cost { spent self.new ≤ spent self.old }
@@ -389,6 +402,7 @@ impl Store<'_> {
 
     /// List i goes out of use, and is empty.
     pub fn free(&mut self, i: usize)
+        ensures held { Held self.new }
         ensures same { bounds self.new ≡ ((bounds self.old).0, slice_set (bounds self.old).1 i false) }
         ensures after { model self.new ≡ slice_set (model self.old) i [] }
         ensures cost { spent self.new ≤ spent self.old }
@@ -403,6 +417,7 @@ impl Store<'_> {
     /// Lists i and j, if both are in use, change places; no word of theirs is moved. The answer says whether both are in use:
     /// a question, since nothing can be refused.
     pub fn swap(&mut self, i: usize, j: usize) -> bool
+        ensures held { Held self.new }
         ensures same { bounds self.new ≡ bounds self.old }
         ensures after { model self.new ≡ (if result then slice_set (slice_set (model self.old) i (slice_index_or (model self.old) j [])) j (slice_index_or (model self.old) i []) else model self.old) }
         ensures says { result ≡ (slice_index_or (bounds self.old).1 i false && slice_index_or (bounds self.old).1 j false) }
@@ -424,6 +439,7 @@ impl Store<'_> {
     /// List i goes out of use, and the list with the greatest number takes its place; no word is moved. The answer is the number
     /// that list had, and None where i had the greatest, or is not in use.
     pub fn remove(&mut self, i: usize) -> Option<usize>
+        ensures held { Held self.new }
         ensures same { bounds self.new ≡ (if slice_index_or (bounds self.old).1 i false then ((bounds self.old).0, slice_set (bounds self.old).1 (extent (bounds self.old).1 - 1) false) else bounds self.old) }
         ensures after { model self.new ≡ (if slice_index_or (bounds self.old).1 i false then replaced (model self.old) i (extent (bounds self.old).1 - 1) else model self.old) }
         ensures says { result ≡ (if slice_index_or (bounds self.old).1 i false && nat_lt (i + 1) (extent (bounds self.old).1) then Some (extent (bounds self.old).1 - 1) else None) }
@@ -446,6 +462,7 @@ impl Store<'_> {
     /// that those had, and None where they are the same, or where fewer than k lists are in use from i on.
     pub fn remove_block(&mut self, i: usize, k: usize) -> Option<usize>
         requires dense { Dense (bounds self.old).1 }
+        ensures held { Held self.new }
         ensures there { extent (bounds self.old).1 ≤ length (model self.old) }
         ensures same { bounds self.new ≡ (if nat_le (i + k) (extent (bounds self.old).1) then ((bounds self.old).0, marked (bounds self.old).1 (extent (bounds self.old).1 - k) k false) else bounds self.old) }
         ensures after { model self.new ≡ (if nat_le (i + k) (extent (bounds self.old).1) then replaced_block (model self.old) i (extent (bounds self.old).1 - k) k else model self.old) }

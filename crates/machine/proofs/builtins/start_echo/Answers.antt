@@ -10,4 +10,4 @@ returns-in_err-push_line t =
     rw (p.1, p.2) (λ text code. record { same = search rules; says = λ number r c k h. line_tight Echo t.min-low.result t.len-len.result t.requires.invoked (rw (t.words-list.ensures, t.text.ensures) at t.in_err-push_line.ensures.err) h })
 
 pub returns : goal.returns
-returns t = rw t.goes_to.ensures (λ text code. record { same = search rules; says = λ number r c k h. echo_on t.args.first t.min-low.result t.len-len.result t.requires.invoked (rw t.words-list.ensures at t.len-len.ensures) (omega (arith, t.min-low.ensures, t.saturating_add.ensures, t.len-len.type_inv)) (rw (t.words-list.ensures, t.text.ensures) at t.in_ok-push_line.ensures.ok) (rw t.words-list.ensures at t.clear.ensures.after) h })
+returns t = rw t.goes_to.ensures (λ text code. record { same = search rules; says = λ number r c k h. echo_on t.args.first t.min-low.result t.len-len.result t.requires.invoked (rw t.words-list.ensures at t.len-len.ensures.is) (omega (arith, t.min-low.ensures, t.saturating_add.ensures, t.len-len.type_inv)) (rw (t.words-list.ensures, t.text.ensures) at t.in_ok-push_line.ensures.ok) (rw t.words-list.ensures at t.clear.ensures.after) h })

@@ -3,7 +3,7 @@ use Rattle.std.proofs.lemmas.List.{length-set}
 use Rattle.segments.specs.Layout.{size, start, table, Changed}
 use Rattle.segments.specs.Table.{nth}
 use Rattle.segments.proofs.WordLaws.{word_written}
-use Rattle.segments.proofs.Views.{segs_are, changed_view, here}
+use Rattle.segments.proofs.Views.{good_laid, segs_are, changed_view, here}
 use Rattle.segments.proofs.SegmentLaws.{grown}
 use Rattle.segments.proofs.Segments.append_word.Goals.{After-write}
 use Rattle.segments.proofs.Segments.append_word.Goals as goal
@@ -39,4 +39,4 @@ pub invariant_of-self : goal.invariant_of-self
 invariant_of-self c = (changed c).good
 
 pub returns : goal.returns
-returns c = rw (← c.self.view_is) (changed_view c.self.inside.words.now _ c.self.inside.count c.args.i (omega (arith, c.write.auto.w, length-set c.self.inside.words.now (c.read-at.result + c.read-len.result) c.args.v)) _ (changed c))
+returns c = rw (← c.self.view_is) (record { laid = good_laid _ _ (changed c).good; after = changed_view c.self.inside.words.now _ c.self.inside.count c.args.i (omega (arith, c.write.auto.w, length-set c.self.inside.words.now (c.read-at.result + c.read-len.result) c.args.v)) _ (changed c) })

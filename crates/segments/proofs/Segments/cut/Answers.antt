@@ -1,7 +1,7 @@
 use Rattle.std.proofs.Common.{take, arith}
 use Rattle.segments.specs.Layout.{table, Changed}
 use Rattle.segments.specs.Table.{nth}
-use Rattle.segments.proofs.Views.{segs_are, changed_view, here}
+use Rattle.segments.proofs.Views.{good_laid, segs_are, changed_view, here}
 use Rattle.segments.proofs.SegmentLaws.{cut_is}
 use Rattle.segments.proofs.Segments.cut.Goals.{After-write}
 use Rattle.segments.proofs.Segments.cut.Goals as goal
@@ -18,4 +18,4 @@ pub invariant_of-self : goal.invariant_of-self
 invariant_of-self c = (changed c).good
 
 pub returns : goal.returns
-returns c = rw (← c.self.view_is) (changed_view c.self.inside.words.now _ c.self.inside.count c.args.i c.write.auto.w _ (changed c))
+returns c = rw (← c.self.view_is) (record { laid = good_laid _ _ (changed c).good; after = changed_view c.self.inside.words.now _ c.self.inside.count c.args.i c.write.auto.w _ (changed c) })

@@ -1,5 +1,5 @@
 use Rattle.segments.specs.Layout.{Marked}
-use Rattle.segments.proofs.Views.{marked_view, here}
+use Rattle.segments.proofs.Views.{good_laid, marked_view, here}
 use Rattle.segments.proofs.Entries.{marked_is}
 use Rattle.segments.proofs.Segments.engage.Goals.{After-write}
 use Rattle.segments.proofs.Segments.engage.Goals as goal
@@ -14,4 +14,4 @@ pub invariant_of-self : goal.invariant_of-self
 invariant_of-self c = (inked c).good
 
 pub returns : goal.returns
-returns c = rw (← c.self.view_is) (marked_view c.self.inside.words.now _ c.self.inside.count c.args.i c.write.auto.w 1 (inked c))
+returns c = rw (← c.self.view_is) (record { laid = good_laid _ _ (inked c).good; after = marked_view c.self.inside.words.now _ c.self.inside.count c.args.i c.write.auto.w 1 (inked c) })

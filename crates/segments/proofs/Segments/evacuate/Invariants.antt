@@ -1,10 +1,11 @@
 use Rattle.std.proofs.Common.{◌≡◌, ℕ, ◌+◌, ◌/◌, ◌<◌, ◌≤◌, length, take}
 use Rattle.segments.specs.Layout.{spread}
-use Rattle.segments.specs.Table.{nth, segs, marks, Within}
+use Rattle.segments.specs.Table.{nth, segs, marks, Within, Laid}
 use Rattle.segments.proofs.Segments.evacuate.Given as goal
 
 abbrev pub invariant-loop-k : goal.invariant-loop-k
 invariant-loop-k l = record {
+  laid : Laid l.self;
   lent : l.self.lent ≡ l.initial.self.lent;
   count : length l.self.segments ≡ length l.initial.self.segments;
   same : segs l.self ≡ segs l.initial.self;

@@ -1,6 +1,6 @@
 use Rattle.std.proofs.Common.{arith}
 use Rattle.segments.specs.Layout.{Exchanged}
-use Rattle.segments.proofs.Views.{exchanged_view, here}
+use Rattle.segments.proofs.Views.{good_laid, exchanged_view, here}
 use Rattle.segments.proofs.Entries.{swapped_is}
 use Rattle.segments.proofs.Segments.exchange.Goals.{After-trade-3}
 use Rattle.segments.proofs.Segments.exchange.Goals as goal
@@ -26,5 +26,8 @@ pub invariant_of-self : goal.invariant_of-self
 invariant_of-self c = (swapped c).good
 
 pub returns : goal.returns
-returns c = rw (← c.self.view_is) (exchanged_view c.self.inside.words.now _ c.self.inside.count c.args.i c.args.j (omega (arith, c.trade-3.auto.w, c.trade-2.auto.w, c.trade.auto.w))
-    (here c.self.inside.words.now c.self.inside.count c.args.self.now c.args.i c.self.invariant c.self.view_is c.requires.i_there).lt (here c.self.inside.words.now c.self.inside.count c.args.self.now c.args.j c.self.invariant c.self.view_is c.requires.j_there).lt c.requires.apart (swapped c))
+returns c = rw (← c.self.view_is) (record {
+  laid = good_laid _ _ (swapped c).good;
+  after = exchanged_view c.self.inside.words.now _ c.self.inside.count c.args.i c.args.j (omega (arith, c.trade-3.auto.w, c.trade-2.auto.w, c.trade.auto.w))
+      (here c.self.inside.words.now c.self.inside.count c.args.self.now c.args.i c.self.invariant c.self.view_is c.requires.i_there).lt (here c.self.inside.words.now c.self.inside.count c.args.self.now c.args.j c.self.invariant c.self.view_is c.requires.j_there).lt c.requires.apart (swapped c);
+})

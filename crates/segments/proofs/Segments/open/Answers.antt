@@ -1,7 +1,7 @@
 use Rattle.std.proofs.Common.{◌≡◌, ℕ, ◌+◌, ◌*◌, ◌<◌, ◌≤◌, List, length, arith}
 use Rattle.segments.specs.Layout.{start, table, Opened}
 use Rattle.segments.specs.Table.{Table, nth}
-use Rattle.segments.proofs.Views.{count_is, lent_is, start_is, opened_view}
+use Rattle.segments.proofs.Views.{good_laid, count_is, lent_is, start_is, opened_view}
 use Rattle.segments.proofs.Entries.{opened_is}
 use Rattle.segments.proofs.Segments.open.Goals.{After-write-4}
 use Rattle.segments.proofs.Segments.open.Goals as goal
@@ -40,4 +40,4 @@ pub invariant_of-self : goal.invariant_of-self
 invariant_of-self c = (new (goal.at.invariant_of-self c).After-write-4).good
 
 pub returns : goal.returns
-returns c = rw (← c.self.view_is) (opened_view c.self.inside.words.now _ c.self.inside.count c.args.at (omega (arith, c.write.auto.w, c.write-2.auto.w, c.write-3.auto.w, c.write-4.auto.w)) (new (goal.at.returns c).After-write-4))
+returns c = rw (← c.self.view_is) (record { laid = good_laid _ _ (new (goal.at.returns c).After-write-4).good; after = opened_view c.self.inside.words.now _ c.self.inside.count c.args.at (omega (arith, c.write.auto.w, c.write-2.auto.w, c.write-3.auto.w, c.write-4.auto.w)) (new (goal.at.returns c).After-write-4) })

@@ -1,7 +1,7 @@
 use Rattle.std.proofs.Common.{◌≡◌, ℕ, ◌+◌, ◌*◌, ◌<◌, ◌≤◌, ◌⊎◌, List, length, arith}
 use Rattle.segments.specs.Layout.{table, Moved, Free}
 use Rattle.segments.specs.Table.{Table, nth}
-use Rattle.segments.proofs.Views.{count_is, lent_is, start_is, room_is, moved_view, here}
+use Rattle.segments.proofs.Views.{good_laid, count_is, lent_is, start_is, room_is, moved_view, here}
 use Rattle.segments.proofs.SegmentLaws.{moved_is}
 use Rattle.segments.proofs.Segments.relocate.Goals.{After-write-2}
 use Rattle.segments.proofs.Segments.relocate.Goals as goal
@@ -48,4 +48,4 @@ pub invariant_of-self : goal.invariant_of-self
 invariant_of-self c = (gone c).good
 
 pub returns : goal.returns
-returns c = rw (← c.self.view_is) (moved_view c.self.inside.words.now _ c.self.inside.count c.args.i (omega (arith, c.write-2.auto.w, c.write.auto.w, c.copy_words.auto.w)) c.args.to c.args.room (gone c))
+returns c = rw (← c.self.view_is) (record { laid = good_laid _ _ (gone c).good; after = moved_view c.self.inside.words.now _ c.self.inside.count c.args.i (omega (arith, c.write-2.auto.w, c.write.auto.w, c.copy_words.auto.w)) c.args.to c.args.room (gone c) })

@@ -1,6 +1,6 @@
 use Rattle.std.proofs.Common.{length, refl, arith}
 use Rattle.store.specs.Fields.{fields}
-use Rattle.store.specs.Held.{Sound, Reserved, model, bounds, spent}
+use Rattle.store.specs.Held.{Sound, Held, Reserved, model, bounds, spent}
 use Rattle.store.proofs.Growth.{grew_inv, grew_model, grew_bounds, grew_cost, inside}
 use Rattle.store.proofs.Store.extend.Goals as goal
 
@@ -29,17 +29,18 @@ invariant_of-self c =
     let v : Sound u = c.self.invariant in
     let xs = c.args.xs.now in
     let z : Reserved s u c.args.i (length xs) = rw (← c.self.view_is) at c.in_ok-reserve.ensures.after in
-    rw c.append_words.ensures (grew_inv s u c.args.i xs v z _ refl)
+    rw c.append_words.ensures.after (grew_inv s u c.args.i xs v z _ refl (rw c.append_words.ensures.after at c.append_words.ensures.laid))
 
 pub returns : goal.returns
-unfolding bounds model spent
+unfolding Held bounds model spent
 returns c =
     let s = c.args.self.now in
     let u = fields c.self.inside in
     let v : Sound u = c.self.invariant in
     let xs = c.args.xs.now in
     let z : Reserved s u c.args.i (length xs) = rw (← c.self.view_is) at c.in_ok-reserve.ensures.after in
-    rw c.append_words.ensures (record {
+    rw c.append_words.ensures.after (record {
+      held = grew_inv s u c.args.i xs v z _ refl (rw c.append_words.ensures.after at c.append_words.ensures.laid);
       same = grew_bounds s u c.args.i xs v z;
       after = grew_model s u c.args.i xs v z;
       says = c.in_ok-reserve.ensures.says;

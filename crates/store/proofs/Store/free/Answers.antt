@@ -12,6 +12,7 @@ returns-then-not-in_use c =
     let s = c.args.self.now in
     let e = sym c.if-not-in_use.ensures.says in
     record {
+      held = c.in_use.ensures.held;
       same = ap (λ (y : List Bool). (s.half, y)) (set_same (lives s.table s.half) c.args.i false false e);
       after = set_same (lists s.table s.half) c.args.i [] [] (dead_empty _ _ _ _ _ _ c.in_use.ensures.held c.args.i e);
       cost = omega arith;
@@ -36,6 +37,7 @@ returns c =
     let e = c.clear.ensures in
     let f = c.release.ensures in
     record {
+      held = f.held;
       same = ap₂ (λ (h : ℕ) (y : List Bool). (h, y)) (f.bounds.0 ∙ ap (λ (p : ℕ × List Bool). p.0) e.same) (f.bounds.1 ∙ ap (λ (p : ℕ × List Bool). set p.1 c.args.i false) e.same);
       after = f.same ∙ e.after;
       cost = omega (arith, e.cost, f.cost);

@@ -10,7 +10,7 @@ pub returns-then-self-count : goal.returns-then-self-count
 returns-then-self-count c =
     rw (← c.self.view_is) (record {
       shifted = record { half = refl; total = refl; same = refl; used = refl };
-      space = omega (arith, c.count.ensures);
+      space = omega (arith, c.count.ensures.is);
       seldom = stayed refl;
       cost = ask_cost _ _ _ _;
       rest = omega arith;
@@ -29,7 +29,7 @@ returns c =
     let k = same_count t.table s.table z.same in
     let n = length s.table.segments in
     let n' = length t.table.segments in
-    let full : s.low + s.half < s.hi + 8 * n + c.args.ask = rw c.count.ensures at c.if-self-count.false in
+    let full : s.low + s.half < s.hi + 8 * n + c.args.ask = rw c.count.ensures.is at c.if-self-count.false in
     rw (← c.self.view_is) (record {
       shifted = z;
       space = omega (arith, e.space, f, z.half, k, b);

@@ -10,4 +10,4 @@ pub returns-then-len-eq0 : goal.returns-then-len-eq0
 returns-then-len-eq0 c =
     let m = model c.args.self.now in
     let e = nil_from_length (get_or m c.args.i []) (omega arith) in
-    record { same = refl; after = none m c.args.i e; last = rw e; cost = omega arith }
+    record { held = c.len-len.ensures.held; same = refl; after = none m c.args.i e; last = rw e; cost = omega arith }

@@ -11,7 +11,7 @@ overflow_sub-last c =
     let n = length s.table.segments in
     let v = rw (← c.self.view_is) at c.in_use.ensures.held in
     let t = sym (rw (← c.self.view_is) at c.if-not-in_use.ensures.says) in
-    omega (arith, in_table s v i t, c.count-last.ensures)
+    omega (arith, in_table s v i t, c.count-last.ensures.is)
 
 pub returns-then-i-last : goal.returns-then-i-last
 returns-then-i-last c =
@@ -20,13 +20,14 @@ returns-then-i-last c =
     let n = length s.table.segments in
     let v = rw (← c.self.view_is) at c.in_use.ensures.held in
     let t = sym (rw (← c.self.view_is) at c.if-not-in_use.ensures.says) in
-    let e = rw (← c.self.view_is, c.count-last.ensures) at c.swap.ensures in
-    let f = rw c.count-last.ensures at c.free.ensures in
-    rw (← c.self.view_is, c.count-last.ensures) (record {
+    let e = rw (← c.self.view_is, c.count-last.ensures.is) at c.swap.ensures in
+    let f = rw c.count-last.ensures.is at c.free.ensures in
+    rw (← c.self.view_is, c.count-last.ensures.is) (record {
+      held = f.held;
       dense = removed_dense s v i t _ _ e.same f.same;
       same = removed_same s v i t _ _ e.same f.same;
       after = removed_after s v i t _ _ _ e.says e.after f.after;
-      says = rw (t, extent_count s v, lt-ltb (i + 1) n (omega (arith, c.if-i-last.true, c.count-last.ensures)));
+      says = rw (t, extent_count s v, lt-ltb (i + 1) n (omega (arith, c.if-i-last.true, c.count-last.ensures.is)));
       cost = omega (arith, e.cost, f.cost);
     })
 
@@ -37,12 +38,13 @@ returns c =
     let n = length s.table.segments in
     let v = rw (← c.self.view_is) at c.in_use.ensures.held in
     let t = sym (rw (← c.self.view_is) at c.if-not-in_use.ensures.says) in
-    let e = rw (← c.self.view_is, c.count-last.ensures) at c.swap.ensures in
-    let f = rw c.count-last.ensures at c.free.ensures in
+    let e = rw (← c.self.view_is, c.count-last.ensures.is) at c.swap.ensures in
+    let f = rw c.count-last.ensures.is at c.free.ensures in
     rw (← c.self.view_is) (record {
+      held = f.held;
       dense = removed_dense s v i t _ _ e.same f.same;
       same = removed_same s v i t _ _ e.same f.same;
       after = removed_after s v i t _ _ _ e.says e.after f.after;
-      says = rw (t, extent_count s v, le-ltb (i + 1) n (omega (arith, c.if-i-last.false, c.count-last.ensures)));
+      says = rw (t, extent_count s v, le-ltb (i + 1) n (omega (arith, c.if-i-last.false, c.count-last.ensures.is)));
       cost = omega (arith, e.cost, f.cost);
     })

@@ -12,10 +12,11 @@ returns-then-k-n c =
     let s = fields c.self.inside in
     let v : Held s = c.self.invariant in
     let n = length s.table.segments in
-    let q = c.count-n.ensures in
+    let q = c.count-n.ensures.is in
     let m = c.args.i + c.args.k in
     let x = extent_count s v in
     rw (← c.self.view_is) (record {
+      held = v;
       there = extent_there s v;
       dense = rw (← c.self.view_is) at c.requires.dense;
       same = rw (x, lt-leb m n (omega (arith, q, c.if-k-n.true)));
@@ -30,10 +31,11 @@ returns-then-i-from c =
     let s = fields c.self.inside in
     let v : Held s = c.self.invariant in
     let n = length s.table.segments in
-    let q = c.count-n.ensures in
+    let q = c.count-n.ensures.is in
     let m = c.args.i + c.args.k in
     let x = extent_count s v in
     rw (← c.self.view_is) (record {
+      held = v;
       there = extent_there s v;
       dense = rw (← c.self.view_is) at c.requires.dense;
       same = rw (x, lt-leb m n (omega (arith, q, c.if-i-from.true)));
@@ -48,7 +50,7 @@ loop-q-init c =
     let s = fields c.self.inside in
     let v : Held s = c.self.invariant in
     let n = length s.table.segments in
-    let q = c.count-n.ensures in
+    let q = c.count-n.ensures.is in
     let m = c.args.i + c.args.k in
     let x = extent_count s v in
     let d = rw (← c.self.view_is) at c.requires.dense in
@@ -59,7 +61,7 @@ loop-q-preserved c =
     let e = c.remove.ensures in
     let j = c.loop-q.q in
     given_step c.args.self.now c.loop-q.self c.remove.new.self c.args.i (c.count-n.result - c.args.k) c.args.k j (j - 1) c.loop-q.invariant
-    (omega arith) c.if-i-from.false e.same e.after e.cost
+    (omega arith) c.if-i-from.false e.held e.same e.after e.cost
 
 pub returns-then-i-from-2 : goal.returns-then-i-from-2
 unfolding Held
@@ -67,13 +69,14 @@ returns-then-i-from-2 c =
     let s = fields c.self.inside in
     let v : Held s = c.self.invariant in
     let n = length s.table.segments in
-    let q = c.count-n.ensures in
+    let q = c.count-n.ensures.is in
     let m = c.args.i + c.args.k in
     let x = extent_count s v in
     let y : Given s c.loop-q.self c.args.i (n - c.args.k) c.args.k c.loop-q.q = rw (← c.self.view_is, q) at c.loop-q.invariant in
     let g = given_all s c.loop-q.self c.args.i (n - c.args.k) c.args.k c.loop-q.q y (omega arith) in
     let h : m ≤ n = omega (arith, c.if-k-n.false, c.if-i-from.false, q) in
     rw (← c.self.view_is) (record {
+      held = y.held;
       there = extent_there s v;
       dense = given_dense s c.loop-q.self c.args.i (n - c.args.k) c.args.k c.loop-q.q y;
       same = rw (x, le-leb m n h) g.0;
@@ -88,13 +91,14 @@ returns c =
     let s = fields c.self.inside in
     let v : Held s = c.self.invariant in
     let n = length s.table.segments in
-    let q = c.count-n.ensures in
+    let q = c.count-n.ensures.is in
     let m = c.args.i + c.args.k in
     let x = extent_count s v in
     let y : Given s c.loop-q.self c.args.i (n - c.args.k) c.args.k c.loop-q.q = rw (← c.self.view_is, q) at c.loop-q.invariant in
     let g = given_all s c.loop-q.self c.args.i (n - c.args.k) c.args.k c.loop-q.q y (omega arith) in
     let h : m ≤ n = omega (arith, c.if-k-n.false, c.if-i-from.false, q) in
     rw (← c.self.view_is) (record {
+      held = y.held;
       there = extent_there s v;
       dense = given_dense s c.loop-q.self c.args.i (n - c.args.k) c.args.k c.loop-q.q y;
       same = rw (x, le-leb m n h) g.0;

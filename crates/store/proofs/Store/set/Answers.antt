@@ -2,7 +2,7 @@ use Rattle.std.proofs.Common.{◌≡◌, false, [], set, arith}
 use Rattle.std.proofs.lemmas.List.{length-set}
 use Rattle.segments.specs.Table.{nth}
 use Rattle.store.specs.Fields.{fields}
-use Rattle.store.specs.Held.{Sound, model, bounds, spent}
+use Rattle.store.specs.Held.{Sound, Held, model, bounds, spent}
 use Rattle.store.proofs.Totals.{lists_at}
 use Rattle.store.proofs.StoreLaws.{changed_inv, changed_model, changed_bounds, shrunk_strain}
 use Rattle.store.proofs.Store.set.Goals as goal
@@ -15,10 +15,10 @@ invariant_of-self c =
     let x = set (nth s.table i).words c.args.j c.args.v in
     let d : (nth s.table i).used ≡ false → x ≡ [] = λ u. rw (v.empty i u) in
     let l = length-set (nth s.table i).words c.args.j c.args.v in
-    rw c.put.ensures (changed_inv _ _ _ _ _ _ v i s.total x d (omega (arith, l)) v.bound)
+    rw c.put.ensures.after (changed_inv _ _ _ _ _ _ v i s.total x d (omega (arith, l)) v.bound (rw c.put.ensures.after at c.put.ensures.laid))
 
 pub returns : goal.returns
-unfolding model bounds spent
+unfolding Held model bounds spent
 returns c =
     let s = fields c.self.inside in
     let i = c.args.i in
@@ -26,7 +26,8 @@ returns c =
     let x = set (nth s.table i).words c.args.j c.args.v in
     let d : (nth s.table i).used ≡ false → x ≡ [] = λ u. rw (v.empty i u) in
     let l = length-set (nth s.table i).words c.args.j c.args.v in
-    rw (← c.self.view_is, c.put.ensures) (record {
+    rw (← c.self.view_is, c.put.ensures.after) (record {
+      held = changed_inv _ _ _ _ _ _ v i s.total x d (omega (arith, l)) v.bound (rw c.put.ensures.after at c.put.ensures.laid);
       same = changed_bounds _ _ _ _ _ _ v i s.total x d;
       after = rw lists_at (changed_model _ _ _ _ _ _ v i s.total x d);
       cost = omega (

@@ -21,7 +21,7 @@ pub invariant_of-self : goal.invariant_of-self
 invariant_of-self c =
     let p : Sound (fields c.self.inside) = c.self.invariant in
     let e = c.evacuate-self-inside.ensures in
-    tidied _ _ _ _ _ _ p _ _ _ e.lent e.same e.used e.all e.end (other_side _ _ _ _ _ _ p)
+    tidied _ _ _ _ _ _ p _ _ _ e.laid e.lent e.same e.used e.all e.end (other_side _ _ _ _ _ _ p)
 
 pub returns : goal.returns
 returns c =

@@ -22,7 +22,7 @@ invariant_of-self c =
     let s = fields c.self.inside in
     let p : Sound s = c.self.invariant in
     let r = rw (← c.self.view_is) at c.requires in
-    rw c.relocate.ensures (widened _ _ _ _ _ _ p c.args.i (s.low - c.args.r) c.args.r r.there (omega (arith, r.free, p.side)) (omega (arith, r.free, p.side)))
+    rw c.relocate.ensures.after (widened _ _ _ _ _ _ p c.args.i (s.low - c.args.r) c.args.r r.there (omega (arith, r.free, p.side)) (omega (arith, r.free, p.side)) (rw c.relocate.ensures.after at c.relocate.ensures.laid))
 
 pub returns : goal.returns
 returns c =
@@ -31,7 +31,7 @@ returns c =
     let r = rw (← c.self.view_is) at c.requires in
     let i = c.args.i in
     let one : Segment = record { start = s.low - c.args.r; room = c.args.r; words = (nth s.table i).words; used = (nth s.table i).used } in
-    rw (← c.self.view_is, c.relocate.ensures) (record {
+    rw (← c.self.view_is, c.relocate.ensures.after) (record {
       shifted = record { half = refl; total = refl; same = segs_kept s.table i one refl; used = marks_kept s.table i one refl };
       wide = ap (λ (x : Segment). x.room) (nth_same s.table i one r.there);
       counts = c.saturating_add-self-inside.ensures;
