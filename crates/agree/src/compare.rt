@@ -1,7 +1,7 @@
 //! What the texts give, beside what they should give.
 
 use crate::counts::{Counts, Outcomes};
-use crate::records::{Expectation, Expected, Record};
+use crate::records::{Expectation, Record};
 use anyhow::anyhow;
 use dice::run::{Report, run};
 use dice_tree::calm::calm;
@@ -19,13 +19,17 @@ fn as_text(bytes: &[u8]) -> &str {
     std::str::from_utf8(bytes).unwrap_or("(bytes that are no text)")
 }
 
-impl Expected {
+impl Record {
     fn fits(&self, report: &Report) -> bool {
         let paper = match &self.paper {
-            Some(paper) => paper.as_bytes() == report.paper.as_slice(),
+            Some(paper) => paper.as_slice() == report.paper.as_slice(),
             None => true,
         };
-        paper && self.outcome == report.outcome
+        let outcome = match &self.expectation {
+            Expectation::Runs(outcome) => *outcome == report.outcome,
+            Expectation::NoText(_) => false,
+        };
+        paper && outcome
     }
 }
 
@@ -40,7 +44,7 @@ impl Counts {
     ) -> anyhow::Result<()> {
         self.agreements.count(fits);
         if !fits {
-            let name = record.name.as_str();
+            let name = as_text(&record.name);
             println!(rt; "DIFFERS: {name}: {found}")?;
         }
         Ok(())
@@ -57,11 +61,11 @@ impl Counts {
             return Err(anyhow!("no memory"));
         };
         self.outcomes.refuse();
-        let (line, column) = line_and_column(record.text.as_bytes(), refusal.place);
+        let (line, column) = line_and_column(&record.text, refusal.place);
         let expected = refusal.expected;
         let found = format!(in rt.alloc(); "{line}:{column} {expected}")?;
         let fits = match &record.expectation {
-            Expectation::NoText(words) => *words == found,
+            Expectation::NoText(words) => words.as_slice() == found.as_bytes(),
             Expectation::Runs(_) => false,
         };
         self.note(rt, record, fits, found)
@@ -72,27 +76,25 @@ impl Counts {
         &mut self,
         rt: &(impl Print + AllocGlobal),
         record: &Record,
-        expected: &Expected,
         list: &[Item],
         seed: u64,
     ) -> anyhow::Result<()> {
-        let report = run(rt.alloc(), list, record.input.as_bytes(), seed, MOVES)?;
+        let report = run(rt.alloc(), list, &record.input, seed, MOVES)?;
         let outcome = report.outcome;
         let paper = as_text(&report.paper);
         let found = format_args!("dice {seed}: {outcome:?}, paper:\n{paper}");
-        self.note(rt, record, expected.fits(&report), found)
+        self.note(rt, record, record.fits(&report), found)
     }
 
     fn check_forms(
         &mut self,
         rt: &impl Print,
         record: &Record,
-        expected: &Expected,
         list: &[Item],
     ) -> anyhow::Result<()> {
         let stage = Stage::of(list).number();
         let is_calm = calm(list);
-        let fits = stage == expected.stage && is_calm == expected.calm;
+        let fits = stage == record.stage && is_calm == record.calm;
         let found = format_args!("stage {stage}, calm: {is_calm}");
         self.note(rt, record, fits, found)
     }
@@ -104,14 +106,13 @@ impl Counts {
         record: &Record,
         list: &[Item],
     ) -> anyhow::Result<()> {
-        let Expectation::Runs(expected) = &record.expectation else {
-            return self.note(rt, record, false, "a text");
-        };
-        self.stages.count(expected.stage);
-        self.outcomes.count(expected.outcome);
-        self.check_forms(rt, record, expected, list)?;
+        self.stages.count(record.stage);
+        if let Expectation::Runs(outcome) = &record.expectation {
+            self.outcomes.count(*outcome);
+        }
+        self.check_forms(rt, record, list)?;
         for seed in SEEDS {
-            self.check_run(rt, record, expected, list, seed)?;
+            self.check_run(rt, record, list, seed)?;
         }
         Ok(())
     }
@@ -122,7 +123,7 @@ impl Counts {
         rt: &(impl Print + AllocGlobal),
         record: &Record,
     ) -> anyhow::Result<()> {
-        match parse(rt.alloc(), record.text.as_bytes()) {
+        match parse(rt.alloc(), &record.text) {
             Err(fault) => self.check_refusal(rt, record, &fault),
             Ok(list) => self.check_text(rt, record, &list),
         }

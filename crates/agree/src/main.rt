@@ -28,8 +28,8 @@ const FILES: [&str; 8] = [
 fn check_records(rt: &(impl Print + AllocGlobal + Files)) -> anyhow::Result<()> {
     let mut all = Vec::new(rt.alloc());
     for file in FILES {
-        let text = fs::read_to_string(rt, file)?;
-        records::read_records(rt.alloc(), &text, &mut all)?;
+        let bytes = fs::read(rt, file)?;
+        records::read_records(rt.alloc(), &bytes, &mut all)?;
     }
     let mut counts = Counts::default();
     for record in all.iter() {

@@ -1,43 +1,26 @@
-//! The texts that are kept as data, each with what it gives.
+//! The texts that are kept as data, each with what it gives: all of them bytes, as not every text is UTF-8.
 
 use dice::run::Outcome;
 use std::alloc::{AllocError, Global};
-use std::num::ParseIntError;
-use thiserror::Error;
-
-/// Why a file of records cannot be read.
-#[derive(Debug, Drop, Error)]
-pub enum RecordError {
-    #[error("a line of a record with no number: {0}")]
-    Number(#[from] ParseIntError),
-    #[error(transparent)]
-    Memory(#[from(alloc)] AllocError),
-}
 
 /// What a text is expected to come to.
 /// No Result: a text that is none is what is expected here, and no error.
 #[derive(Drop)]
 pub enum Expectation {
-    Runs(Expected),
+    Runs(Outcome),
     /// It is no text: the place and what was expected there, as it is printed.
-    NoText(String),
-}
-
-/// What a text gives that is one.
-#[derive(Drop)]
-pub struct Expected {
-    pub stage: u32,
-    pub calm: bool,
-    pub outcome: Outcome,
-    /// Missing where it is not compared.
-    pub paper: Option<String>,
+    NoText(Vec<u8>),
 }
 
 #[derive(Drop)]
 pub struct Record {
-    pub name: String,
-    pub text: String,
-    pub input: String,
+    pub name: Vec<u8>,
+    pub text: Vec<u8>,
+    pub input: Vec<u8>,
+    /// Missing where it is not compared.
+    pub paper: Option<Vec<u8>>,
+    pub stage: u32,
+    pub calm: bool,
     pub expectation: Expectation,
 }
 
@@ -53,43 +36,84 @@ enum Section {
 #[derive(Clone, Copy)]
 enum Line<'a> {
     /// The beginning of a record, with its name.
-    Name(&'a str),
-    /// N times a piece.
-    Times(&'a str),
+    Name(&'a [u8]),
+    /// So many times a piece.
+    Times(u32, &'a [u8]),
     /// A piece of a line, and a whole one.
-    Piece(&'a str),
-    Whole(&'a str),
+    Piece(&'a [u8]),
+    Whole(&'a [u8]),
     Section(Section),
-    Stage(&'a str),
+    Stage { stage: u32, calm: bool },
     /// The end of a record: the status, or the place and what was expected there.
-    Ended(&'a str),
+    Ended(u32),
     Spent,
-    NoText(&'a str),
+    NoText(&'a [u8]),
     /// A comment, or nothing.
     Other,
 }
 
-impl<'a> From<&'a str> for Line<'a> {
-    fn from(line: &'a str) -> Line<'a> {
+/// The number in decimal digits with which a line begins, and what stands behind it: 0 if there are none, and the
+/// largest there is if it is larger.
+fn leading_number(line: &[u8]) -> (u32, &[u8]) {
+    let mut number: u32 = 0;
+    for (i, c) in line.iter().enumerate() {
+        match *c {
+            b'0'..=b'9' => {
+                number = number
+                    .saturating_mul(10)
+                    .saturating_add(u32::from(*c - b'0'))
+            }
+            _ => return (number, line.get(i..).unwrap_or(&[])),
+        }
+    }
+    (number, &[])
+}
+
+/// A line without the blank with which it may begin.
+fn behind_blank(line: &[u8]) -> &[u8] {
+    line.strip_prefix(b" ").unwrap_or(line)
+}
+
+impl<'a> Line<'a> {
+    fn times(line: &'a [u8]) -> Line<'a> {
+        let (times, rest) = leading_number(line);
+        Line::Times(times, behind_blank(rest))
+    }
+
+    fn stage(line: &'a [u8]) -> Line<'a> {
+        let (stage, rest) = leading_number(line);
+        let calm = rest == b" calm".as_slice();
+        Line::Stage { stage, calm }
+    }
+
+    /// What stands behind the status is no part of it.
+    fn ended(line: &'a [u8]) -> Line<'a> {
+        let (status, _) = leading_number(line);
+        Line::Ended(status)
+    }
+}
+
+impl<'a> From<&'a [u8]> for Line<'a> {
+    fn from(line: &'a [u8]) -> Line<'a> {
         match line {
-            "input" => return Line::Section(Section::Input),
-            "paper" => return Line::Section(Section::Paper),
-            "spent" => return Line::Spent,
+            b"input" => return Line::Section(Section::Input),
+            b"paper" => return Line::Section(Section::Paper),
+            b"spent" => return Line::Spent,
             _ => {}
         }
-        if let Some(rest) = line.strip_prefix('|') {
-            Line::Whole(rest.strip_prefix(' ').unwrap_or(rest))
-        } else if let Some(rest) = line.strip_prefix(": ") {
+        if let Some(rest) = line.strip_prefix(b"|") {
+            Line::Whole(behind_blank(rest))
+        } else if let Some(rest) = line.strip_prefix(b": ") {
             Line::Piece(rest)
-        } else if let Some(rest) = line.strip_prefix("* ") {
-            Line::Times(rest)
-        } else if let Some(rest) = line.strip_prefix("text ") {
+        } else if let Some(rest) = line.strip_prefix(b"* ") {
+            Line::times(rest)
+        } else if let Some(rest) = line.strip_prefix(b"text ") {
             Line::Name(rest)
-        } else if let Some(rest) = line.strip_prefix("stage ") {
-            Line::Stage(rest)
-        } else if let Some(rest) = line.strip_prefix("ended ") {
-            Line::Ended(rest)
-        } else if let Some(rest) = line.strip_prefix("no text ") {
+        } else if let Some(rest) = line.strip_prefix(b"stage ") {
+            Line::stage(rest)
+        } else if let Some(rest) = line.strip_prefix(b"ended ") {
+            Line::ended(rest)
+        } else if let Some(rest) = line.strip_prefix(b"no text ") {
             Line::NoText(rest)
         } else {
             Line::Other
@@ -97,67 +121,71 @@ impl<'a> From<&'a str> for Line<'a> {
     }
 }
 
-/// How a record ends: what its text comes to.
-#[derive(Drop)]
-enum Ending {
-    Outcome(Outcome),
-    NoText(String),
-}
-
-/// A number, and what stands behind it and a blank.
-fn leading_number(line: &str) -> Result<(u32, &str), RecordError> {
-    let (number, rest) = line.split_once(' ').unwrap_or((line, ""));
-    Ok((number.parse()?, rest))
-}
-
 /// A record while its lines are read.
 #[derive(Drop)]
 struct Draft {
     heap: Global,
-    name: String,
-    text: String,
-    input: String,
-    paper: Option<String>,
+    name: Vec<u8>,
+    text: Vec<u8>,
+    input: Vec<u8>,
+    paper: Option<Vec<u8>>,
     stage: u32,
     calm: bool,
     section: Section,
+    /// Whether the text's last line has an end, which is no part of it.
+    ended: bool,
 }
 
 impl Draft {
-    fn new(heap: Global, name: String) -> Draft {
+    fn new(heap: Global, name: Vec<u8>) -> Draft {
         Draft {
             heap,
             name,
-            text: String::new(heap),
-            input: String::new(heap),
+            text: Vec::new(heap),
+            input: Vec::new(heap),
             paper: None,
             stage: 0,
             calm: false,
             section: Section::Text,
+            ended: false,
         }
     }
 
+    /// A section may come again: its lines go behind those that are there.
     fn begin(&mut self, section: Section) {
         self.section = section;
-        if matches!(section, Section::Paper) {
-            self.paper = Some(String::new(self.heap));
+        if matches!(section, Section::Paper) && self.paper.is_none() {
+            self.paper = Some(Vec::new(self.heap));
         }
     }
 
-    /// A piece of the text, the input or the paper.
-    fn add(&mut self, piece: &str) -> Result<(), AllocError> {
+    /// A piece of the text, the input or the paper. Also an empty one leaves the text's last line without an end.
+    fn add(&mut self, piece: &[u8]) -> Result<(), AllocError> {
         match self.section {
-            Section::Text => self.text.push_str(piece),
-            Section::Input => self.input.push_str(piece),
+            Section::Text => {
+                self.ended = false;
+                self.text.extend_from_slice(piece)
+            }
+            Section::Input => self.input.extend_from_slice(piece),
             Section::Paper => match &mut self.paper {
-                Some(paper) => paper.push_str(piece),
+                Some(paper) => paper.extend_from_slice(piece),
                 None => Ok(()),
             },
         }
     }
 
-    /// The record is whole. The end of its text's last line is no part of the text.
-    fn finish(self, ending: Ending) -> Record {
+    /// A line of the text, the input or the paper, with its end.
+    fn add_line(&mut self, line: &[u8]) -> Result<(), AllocError> {
+        self.add(line)?;
+        self.add(b"\n")?;
+        if matches!(self.section, Section::Text) {
+            self.ended = true;
+        }
+        Ok(())
+    }
+
+    /// The record is whole.
+    fn finish(self, expectation: Expectation) -> Record {
         let Draft {
             name,
             mut text,
@@ -165,56 +193,44 @@ impl Draft {
             paper,
             stage,
             calm,
+            ended,
             ..
         } = self;
-        if text.ends_with('\n') {
+        if ended {
             let _ = text.pop();
         }
-        let expectation = match ending {
-            Ending::Outcome(outcome) => Expectation::Runs(Expected {
-                stage,
-                calm,
-                outcome,
-                paper,
-            }),
-            Ending::NoText(expected) => Expectation::NoText(expected),
-        };
         Record {
             name,
             text,
             input,
+            paper,
+            stage,
+            calm,
             expectation,
         }
     }
 
-    /// Takes one line of a file of records; the end of the record, if it is that.
-    fn take(&mut self, line: Line<'_>) -> Result<Option<Ending>, RecordError> {
+    /// Takes one line of a file of records; what the text comes to, if the line is the record's end.
+    fn take(&mut self, line: Line<'_>) -> Result<Option<Expectation>, AllocError> {
         match line {
-            Line::Name(name) => *self = Draft::new(self.heap, String::from_str(self.heap, name)?),
-            Line::Times(rest) => {
-                let (times, piece) = leading_number(rest)?;
+            Line::Name(name) => *self = Draft::new(self.heap, name.to_vec(self.heap)?),
+            Line::Times(times, piece) => {
                 // A count, and no index.
                 for _ in 0..times {
                     self.add(piece)?;
                 }
             }
             Line::Piece(piece) => self.add(piece)?,
-            Line::Whole(line) => {
-                self.add(line)?;
-                self.add("\n")?;
-            }
+            Line::Whole(line) => self.add_line(line)?,
             Line::Section(section) => self.begin(section),
-            Line::Stage(rest) => {
-                let (stage, rest) = leading_number(rest)?;
+            Line::Stage { stage, calm } => {
                 self.stage = stage;
-                self.calm = rest == "calm";
+                self.calm = calm;
             }
-            Line::Ended(status) => return Ok(Some(Ending::Outcome(Outcome::Ended(
-                status.parse()?,
-            )))),
-            Line::Spent => return Ok(Some(Ending::Outcome(Outcome::Spent))),
+            Line::Ended(status) => return Ok(Some(Expectation::Runs(Outcome::Ended(status)))),
+            Line::Spent => return Ok(Some(Expectation::Runs(Outcome::Spent))),
             Line::NoText(expected) => {
-                return Ok(Some(Ending::NoText(String::from_str(self.heap, expected)?)));
+                return Ok(Some(Expectation::NoText(expected.to_vec(self.heap)?)));
             }
             Line::Other => {}
         }
@@ -225,14 +241,14 @@ impl Draft {
 /// Reads the records of a file behind those that are there.
 pub fn read_records(
     heap: Global,
-    file: &str,
+    file: &[u8],
     records: &mut Vec<Record>,
-) -> Result<(), RecordError> {
-    let mut draft = Draft::new(heap, String::new(heap));
-    for line in file.split('\n') {
-        if let Some(ending) = draft.take(Line::from(line))? {
-            let whole = std::mem::replace(&mut draft, Draft::new(heap, String::new(heap)));
-            records.push(whole.finish(ending))?;
+) -> Result<(), AllocError> {
+    let mut draft = Draft::new(heap, Vec::new(heap));
+    for line in file.split(|c| *c == b'\n') {
+        if let Some(expectation) = draft.take(Line::from(line))? {
+            let whole = std::mem::replace(&mut draft, Draft::new(heap, Vec::new(heap)));
+            records.push(whole.finish(expectation))?;
         }
     }
     Ok(())

@@ -8,7 +8,7 @@ use crate::tree::{
 };
 
 /// * or ?
-pub fn has_wildcard(bytes: &[u8]) -> bool {
+pub(crate) fn has_wildcard(bytes: &[u8]) -> bool {
     bytes.iter().any(|c| matches!(c, b'*' | b'?'))
 }
 

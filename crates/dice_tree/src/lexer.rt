@@ -1,19 +1,27 @@
 //! From bytes to tokens, a byte at a time. Every text has tokens; whether they are a list of commands the parser says.
 
-use crate::signs::{Quote, Sign};
+use crate::signs::{Keyword, Quote, Sign};
 use crate::tree::Fault;
 use std::alloc::Global;
 
 #[derive(Clone, Copy)]
 pub enum TokenKind<'t> {
-    /// Bytes outside quotes.
-    Bare(&'t [u8]),
+    /// Bytes outside quotes, and the reserved word that they are.
+    Bare {
+        bytes: &'t [u8],
+        keyword: Option<Keyword>,
+    },
     /// Bytes from quotes.
     Quoted(&'t [u8]),
     /// What stands behind $, in double quotes or not.
-    Parameter { quoted: bool, name: &'t [u8] },
+    Parameter {
+        quoted: bool,
+        name: &'t [u8],
+    },
     /// $( in double quotes or not.
-    Open { quoted: bool },
+    Open {
+        quoted: bool,
+    },
     Sign(Sign),
     /// The quote that the text does not close, as a token at the text's end.
     Unclosed(Quote),
@@ -185,11 +193,10 @@ impl<'t> Lexer<'t> {
                 TokenKind::Quoted(bytes),
                 start,
             ),
-            Beginning::Word | Beginning::Dollar => self.put(
-                self.glue,
-                TokenKind::Bare(bytes),
-                start,
-            ),
+            Beginning::Word | Beginning::Dollar => {
+                let keyword = Keyword::try_from(bytes).ok();
+                self.put(self.glue, TokenKind::Bare { bytes, keyword }, start)
+            }
             Beginning::Quote => self.put(false, TokenKind::Unclosed(Quote::Single), at),
             Beginning::Name => {
                 let name = self.bytes(start.saturating_add(1), at);

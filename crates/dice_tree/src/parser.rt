@@ -55,19 +55,6 @@ pub fn valid_name(name: &[u8]) -> bool
     }
 }
 
-/// The first word of a simple command is no reserved word.
-fn first_word_fits(word: &Word) -> bool {
-    match word.parts.as_slice() {
-        [
-            WordPart::Literal {
-                quoted: false,
-                bytes,
-            },
-        ] => Keyword::try_from(bytes.as_slice()).is_err(),
-        _ => true,
-    }
-}
-
 /// A sign that begins a redirection.
 // An Option, and no TryFrom: it is asked at each sign, and that most begin no redirection is no error.
 fn redirect_kind(sign: Sign) -> Option<RedirectKind> {
@@ -154,17 +141,18 @@ impl<'t> Parser<'t> {
             [Token { joined: true, .. }, ..] => Lookahead::Odd,
             [
                 Token {
-                    kind: TokenKind::Bare(_),
+                    kind: TokenKind::Bare { .. },
                     ..
                 },
                 Token { joined: true, .. },
                 ..
             ] => Lookahead::Part,
             [token, ..] => match token.kind {
-                TokenKind::Bare(word) => match Keyword::try_from(word) {
-                    Ok(keyword) => Lookahead::Keyword(keyword),
-                    Err(_) => Lookahead::Part,
-                },
+                TokenKind::Bare {
+                    keyword: Some(keyword),
+                    ..
+                } => Lookahead::Keyword(keyword),
+                TokenKind::Bare { keyword: None, .. } => Lookahead::Part,
                 TokenKind::Sign(sign) => Lookahead::Sign(sign),
                 TokenKind::Unclosed(_) => Lookahead::Odd,
                 TokenKind::Quoted(_) | TokenKind::Parameter { .. } | TokenKind::Open { .. } =>
@@ -180,9 +168,23 @@ impl<'t> Parser<'t> {
         match self.rest.first()? {
             Token {
                 joined: false,
-                kind: TokenKind::Bare(bytes),
+                kind: TokenKind::Bare { bytes, .. },
                 ..
             } => Some(bytes),
+            _ => None,
+        }
+    }
+
+    /// The reserved word that the next token is, if it begins a word.
+    fn keyword(&self) -> Option<Keyword>
+        ensures { IsSome result → 0 < self.now }
+    {
+        match self.rest.first()? {
+            Token {
+                joined: false,
+                kind: TokenKind::Bare { keyword, .. },
+                ..
+            } => *keyword,
             _ => None,
         }
     }
@@ -193,9 +195,7 @@ impl<'t> Parser<'t> {
         ensures taken { T result → self.new < self.old }
         ensures kept { self.new ≤ self.old }
     {
-        let found = self
-            .bare()
-            .is_some_and(|word| Keyword::try_from(word) == Ok(keyword));
+        let found = self.keyword() == Some(keyword);
         if found {
             self.advance();
         }
@@ -292,7 +292,10 @@ impl<'t> Parser<'t> {
 
     /// Words go on until a sign.
     fn no_word(&self) -> bool {
-        matches!(self.lookahead(), Lookahead::End | Lookahead::Sign(_))
+        match self.rest.first() {
+            Some(token) => !token.joined && matches!(token.kind, TokenKind::Sign(_)),
+            None => true,
+        }
     }
 
     fn ends_list(&self) -> bool {
@@ -336,7 +339,7 @@ impl<'t> Parser<'t> {
             self.rest,
             [
                 Token {
-                    kind: TokenKind::Bare(_),
+                    kind: TokenKind::Bare { .. },
                     ..
                 },
                 Token {
@@ -357,7 +360,7 @@ impl<'t> Parser<'t> {
             return Err(self.refuse(Expected::Word));
         };
         let part = match token.kind {
-            TokenKind::Bare(bytes) => WordPart::Literal {
+            TokenKind::Bare { bytes, .. } => WordPart::Literal {
                 quoted: false,
                 bytes: bytes.to_vec(self.heap)?,
             },
@@ -470,12 +473,11 @@ impl<'t> Parser<'t> {
                 redirects: Vec::new(self.heap),
             });
         }
-        let before = self.rest;
-        let first = self.word(left)?;
-        if !first_word_fits(&first) {
-            self.rest = before;
+        // The first word is no reserved word.
+        if matches!(self.lookahead(), Lookahead::Keyword(_)) {
             return Err(self.refuse(Expected::Command));
         }
+        let first = self.word(left)?;
         let words = self.more_words(left, vec![in self.heap; first]?)?;
         let redirects = self.redirects(left)?;
         Ok(Command::Simple {

@@ -126,31 +126,21 @@ impl TryFrom<u8> for Sign {
     type Error = NoSign;
 
     fn try_from(byte: u8) -> Result<Sign, NoSign> {
-        Sign::ALL
-            .iter()
-            .copied()
-            .find(|sign| sign.spelling().as_bytes() == [byte].as_slice())
-            .ok_or(NoSign)
+        match byte {
+            b';' => Ok(Sign::Semicolon),
+            b'&' => Ok(Sign::Ampersand),
+            b'|' => Ok(Sign::Bar),
+            b'<' => Ok(Sign::Less),
+            b'>' => Ok(Sign::Greater),
+            b'(' => Ok(Sign::OpenParenthesis),
+            b')' => Ok(Sign::CloseParenthesis),
+            b'\n' => Ok(Sign::EndOfLine),
+            _ => Err(NoSign),
+        }
     }
 }
 
 impl Sign {
-    const ALL: [Sign; 13] = [
-        Sign::Semicolon,
-        Sign::DoubleSemicolon,
-        Sign::Ampersand,
-        Sign::DoubleAmpersand,
-        Sign::Bar,
-        Sign::DoubleBar,
-        Sign::Less,
-        Sign::DoubleLess,
-        Sign::Greater,
-        Sign::DoubleGreater,
-        Sign::OpenParenthesis,
-        Sign::CloseParenthesis,
-        Sign::EndOfLine,
-    ];
-
     fn spelling(self) -> &'static str {
         match self {
             Sign::Semicolon => ";",

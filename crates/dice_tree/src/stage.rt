@@ -1,6 +1,6 @@
 //! The stage of a text.
 
-ghost use Rattle.std.specs.Prelude.{◌≡◌, ◌≤◌, length};
+ghost use Rattle.std.specs.Prelude.{◌≡◌, ◌≢◌, ◌≤◌, length};
 
 // The walks here and in `calm` are `for` loops: a closure that leads back into its walk owes at each turn that it may be called.
 // They are two, since they carry other things down and stop at other places.
@@ -30,9 +30,10 @@ impl Stage {
         list_stage(text)
     }
 
-    /// From 0, the core's, to 5.
+    /// From 0, the core's, to 5, which only ( ) and & have.
     pub fn number(self) -> u32
-        ensures { result ≤ 5 }
+        ensures most { result ≤ 5 }
+        ensures lower { self ≢ Stage.Processes → result ≤ 4 }
     {
         self as u32
     }
@@ -43,8 +44,10 @@ fn is_positional(name: &[u8]) -> bool {
     matches!(name.first(), Some(b'#' | b'0'..=b'9'))
 }
 
-#[cycle(stage)]
-fn part_stage(part: &WordPart) -> Stage {
+/// The stage of a part, without what stands in its $( ).
+fn part_stage(part: &WordPart) -> Stage
+    ensures { result ≢ Stage.Processes }
+{
     match part {
         WordPart::Literal {
             quoted: false,
@@ -53,15 +56,28 @@ fn part_stage(part: &WordPart) -> Stage {
         WordPart::Literal { .. } => Stage::Core,
         WordPart::Parameter { name, .. } if is_positional(name) => Stage::Functions,
         WordPart::Parameter { .. } => Stage::Core,
-        WordPart::Substitution { list, .. } => list_stage(list).max(Stage::Substitutions),
+        WordPart::Substitution { .. } => Stage::Substitutions,
     }
+}
+
+/// The highest stage of parts, without what stands in their $( ).
+fn parts_stage(parts: &[WordPart]) -> Stage
+    ensures { result ≢ Stage.Processes }
+{
+    let mut most = Stage::Core;
+    for part in parts {
+        most = most.max(part_stage(part));
+    }
+    most
 }
 
 #[cycle(stage)]
 fn word_stage(word: &Word) -> Stage {
-    let mut most = Stage::Core;
+    let mut most = parts_stage(&word.parts);
     for part in &word.parts {
-        most = most.max(part_stage(part));
+        if let WordPart::Substitution { list, .. } = part {
+            most = most.max(list_stage(list));
+        }
     }
     most
 }

@@ -10,7 +10,7 @@ use std::fmt;
 
 /// A part of a word: bytes; what a parameter stands for; what a list of commands prints, $( ).
 #[cycle(tree)]
-#[derive(Drop)]
+#[derive(Clone, Drop)]
 pub enum WordPart {
     Literal { quoted: bool, bytes: Vec<u8> },
     Parameter { quoted: bool, name: Vec<u8> },
@@ -19,14 +19,14 @@ pub enum WordPart {
 
 /// Parts without a blank between them.
 #[cycle(tree)]
-#[derive(Drop)]
+#[derive(Clone, Drop)]
 pub struct Word {
     pub parts: Vec<WordPart>,
 }
 
 /// name=word
 #[cycle(tree)]
-#[derive(Drop)]
+#[derive(Clone, Drop)]
 pub struct Assignment {
     pub name: Vec<u8>,
     pub word: Word,
@@ -42,14 +42,14 @@ pub enum RedirectKind {
 }
 
 #[cycle(tree)]
-#[derive(Drop)]
+#[derive(Clone, Drop)]
 pub struct Redirect {
     pub kind: RedirectKind,
     pub word: Word,
 }
 
 #[cycle(tree)]
-#[derive(Drop)]
+#[derive(Clone, Drop)]
 pub enum Command {
     Simple {
         assignments: Vec<Assignment>,
@@ -68,7 +68,7 @@ pub enum Command {
 
 /// A command that is made of lists.
 #[cycle(tree)]
-#[derive(Drop)]
+#[derive(Clone, Drop)]
 pub enum Compound {
     Group(CommandList),
     Subshell(CommandList),
@@ -94,7 +94,7 @@ pub enum Compound {
 
 /// when pattern ; list ;;
 #[cycle(tree)]
-#[derive(Drop)]
+#[derive(Clone, Drop)]
 pub struct Arm {
     pub pattern: Word,
     pub list: CommandList,
@@ -102,7 +102,7 @@ pub struct Arm {
 
 /// Commands with | between them, with or without ! before the first.
 #[cycle(tree)]
-#[derive(Drop)]
+#[derive(Clone, Drop)]
 pub struct Pipeline {
     pub negated: bool,
     pub commands: Vec<Command>,
@@ -117,7 +117,7 @@ pub enum Joiner {
 
 /// A pipeline, and what joins it to those on its left.
 #[cycle(tree)]
-#[derive(Drop)]
+#[derive(Clone, Drop)]
 pub struct Joined {
     pub joiner: Joiner,
     pub pipeline: Pipeline,
@@ -125,7 +125,7 @@ pub struct Joined {
 
 /// Pipelines joined by && and ||, from the left.
 #[cycle(tree)]
-#[derive(Drop)]
+#[derive(Clone, Drop)]
 pub struct AndOr {
     pub first: Pipeline,
     pub rest: Vec<Joined>,
@@ -133,7 +133,7 @@ pub struct AndOr {
 
 /// One of the commands of a list; `background` says whether & stands behind it.
 #[cycle(tree)]
-#[derive(Drop)]
+#[derive(Clone, Drop)]
 pub struct Item {
     pub and_or: AndOr,
     pub background: bool,
