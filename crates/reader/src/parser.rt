@@ -69,6 +69,10 @@ impl Parser<'_> {
         ensures means { la_of result ≡ lookahead (ahead self.now cursor.now) }
         ensures code { HasCode result (code_at (ahead self.now cursor.now)) }
     {
+        // Known by its code alone: ends of lines may stand in long rows.
+        if self.next_is(cursor, Token::Sign(Sign::Newline)) {
+            return Ahead::Sign(Sign::Newline);
+        }
         Ahead::new(self.peek(cursor), self.is_joined(cursor.at + 1))
     }
 
