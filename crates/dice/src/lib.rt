@@ -5,6 +5,7 @@
 
 mod builtins;
 mod control;
+mod files;
 mod process;
 pub mod run;
 mod runner;
