@@ -6,6 +6,7 @@
 mod builtins;
 mod control;
 mod files;
+mod named;
 mod process;
 pub mod run;
 mod runner;
