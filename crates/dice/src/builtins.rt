@@ -354,7 +354,10 @@ impl<'t> Runner<'t> {
                 line.push(byte)?;
                 Ok(Progress::Works)
             }
-            ReadByte::AtEnd => grep_last(self.system.heap, pattern, line, *found),
+            ReadByte::AtEnd => {
+                let line = std::mem::replace(line, Vec::new(self.system.heap));
+                grep_last(pattern, line, *found)
+            }
             ReadByte::MustWait => Ok(Progress::Waits),
         }
     }
@@ -383,19 +386,10 @@ impl<'t> Runner<'t> {
 }
 
 /// A last line without an end is a line, if there is anything of it.
-fn grep_last(
-    heap: Global,
-    pattern: &[u8],
-    line: &[u8],
-    found: bool,
-) -> Result<Progress, AllocError> {
-    let has = !line.is_empty() && contains(pattern, line);
+fn grep_last(pattern: &[u8], line: Vec<u8>, found: bool) -> Result<Progress, AllocError> {
+    let has = !line.is_empty() && contains(pattern, &line);
     let status = status_of(found || has);
-    let line = if has {
-        Some(as_line(line.to_vec(heap)?)?)
-    } else {
-        None
-    };
+    let line = if has { Some(as_line(line)?) } else { None };
     Ok(Progress::Ends { line, status })
 }
 

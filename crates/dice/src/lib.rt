@@ -5,6 +5,8 @@
 
 mod builtins;
 mod control;
+mod files;
+mod named;
 mod process;
 pub mod run;
 mod runner;

@@ -9,11 +9,11 @@ use prng::Dice;
 use std::alloc::{AllocError, Global};
 use std::collections::BTreeMap;
 
-/// The system and its processes. The one that moves stands beside the others, and its place is empty.
+/// The system and its processes. The one that moves stands beside the others, and its place is empty: so they are boxed.
 #[derive(Drop)]
 pub struct Runner<'t> {
     pub system: System,
-    pub processes: Vec<Option<Process<'t>>>,
+    pub processes: Vec<Option<Box<Process<'t>>>>,
     next_pid: usize,
     /// The statuses of those who have exited.
     pub exited: BTreeMap<Pid, u32>,
@@ -68,6 +68,7 @@ impl<'t> Runner<'t> {
     ) -> Result<Pid, AllocError> {
         let pid = Pid(self.next_pid);
         let process = Process::new(self.system.heap, pid, control, streams, environment);
+        let process = Box::new(self.system.heap, process)?;
         self.processes.push(Some(process))?;
         self.next_pid = self.next_pid.saturating_add(1);
         Ok(pid)
@@ -125,12 +126,12 @@ impl<'t> Runner<'t> {
 
     /// Takes the process at this place out of it.
     /// It is looked up: that those who wait keep their places would be owed by every step otherwise.
-    fn take_out(&mut self, i: usize) -> Option<Process<'t>> {
+    fn take_out(&mut self, i: usize) -> Option<Box<Process<'t>>> {
         self.processes.get_mut(i)?.take()
     }
 
     /// Puts a process back to its place.
-    fn put_back(&mut self, i: usize, process: Process<'t>) {
+    fn put_back(&mut self, i: usize, process: Box<Process<'t>>) {
         if let Some(place) = self.processes.get_mut(i) {
             *place = Some(process);
         }

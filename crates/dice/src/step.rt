@@ -409,9 +409,9 @@ impl<'t> Runner<'t> {
         pattern: &[QuotedByte],
         all: &mut VecDeque<Vec<u8>>,
     ) -> Result<(), AllocError> {
-        for name in self.system.files.keys() {
-            if matches_name(self.system.heap, pattern, name)? {
-                all.push_back(name.clone()?)?;
+        for file in self.system.files.oldest_first() {
+            if matches_name(self.system.heap, pattern, &file.name)? {
+                all.push_back(file.name.clone()?)?;
             }
         }
         Ok(())

@@ -1,7 +1,7 @@
 //! What processes share: files, what is open, pipes, and taking and putting a byte.
 
+use crate::files::Files;
 use dice_tree::tree::RedirectKind;
-use indexmap::IndexMap;
 use std::alloc::{AllocError, Global};
 use std::collections::VecDeque;
 
@@ -81,9 +81,6 @@ pub enum WriteByte {
     NoReader,
 }
 
-/// The files by name, the oldest first, as * gives their names.
-pub type Files = IndexMap<Vec<u8>, Vec<u8>>;
-
 #[derive(Drop)]
 pub struct System {
     pub heap: Global,
@@ -101,7 +98,7 @@ impl System {
             heap,
             handles: Vec::new(heap),
             pipes: Vec::new(heap),
-            files: IndexMap::new(heap),
+            files: Files::new(heap),
             input: VecDeque::from_vec(input),
             paper: Vec::new(heap),
         }
@@ -165,25 +162,25 @@ impl System {
 
     /// Opens a file that is empty first.
     fn create(&mut self, name: Vec<u8>) -> Result<HandleId, AllocError> {
-        self.files.insert(name.clone()?, Vec::new(self.heap))?;
+        self.files.create(&name)?;
         self.open(Handle::FileAppend { name })
     }
 
     /// Opens a file that is written behind what is there.
     fn append(&mut self, name: Vec<u8>) -> Result<HandleId, AllocError> {
         if !self.has_file(name.as_slice()) {
-            self.files.insert(name.clone()?, Vec::new(self.heap))?;
+            self.files.create(&name)?;
         }
         self.open(Handle::FileAppend { name })
     }
 
     pub fn has_file(&self, name: &[u8]) -> bool {
-        self.files.contains_key(name)
+        self.files.contains(name)
     }
 
     /// A file that isn't there is no error.
     pub fn remove_file(&mut self, name: &[u8]) {
-        let _ = self.files.shift_remove(name);
+        self.files.remove(name);
     }
 
     /// Whether a handle is this end of a pipe.
@@ -232,10 +229,7 @@ impl System {
                 let pipe = *pipe;
                 return self.put_into_pipe(pipe, byte);
             }
-            Some(Handle::FileAppend { name }) => {
-                let name = name.clone()?;
-                self.put_into_file(name, byte)?;
-            }
+            Some(Handle::FileAppend { name }) => self.files.append(name, byte)?,
             Some(Handle::HostPaper) => self.paper.push(byte)?,
             Some(_) => {}
         }
@@ -251,11 +245,5 @@ impl System {
         }
         bytes.push_back(byte)?;
         Ok(WriteByte::Wrote)
-    }
-
-    fn put_into_file(&mut self, name: Vec<u8>, byte: u8) -> Result<(), AllocError> {
-        let bytes = self.files.entry(name)?.or_insert(Vec::new(self.heap));
-        bytes.push(byte)?;
-        Ok(())
     }
 }
