@@ -6,7 +6,6 @@
 mod builtins;
 mod control;
 mod files;
-mod named;
 mod process;
 pub mod run;
 mod runner;

@@ -1,19 +1,18 @@
 //! A process.
 
 use crate::control::{Control, Frame, Pid};
-use crate::named::Named;
 use crate::system::{PipeEnd, Streams, System};
 use crate::text::{SUCCESS, decimal};
 use crate::words::WordBuilder;
 use dice_tree::tree::{Item, WordPart};
 use std::alloc::{AllocError, Global};
-use std::collections::VecDeque;
+use std::collections::{BTreeMap, VecDeque};
 
 /// What holds in a process, and at first in those that it begins.
 #[derive(Clone, Drop)]
 pub struct Environment<'t> {
-    pub variables: Named<Vec<u8>>,
-    pub functions: Named<&'t [Item]>,
+    pub variables: BTreeMap<Vec<u8>, Vec<u8>>,
+    pub functions: BTreeMap<Vec<u8>, &'t [Item]>,
     pub arguments: VecDeque<Vec<u8>>,
     /// The last status, $?.
     pub status: u32,
@@ -22,15 +21,16 @@ pub struct Environment<'t> {
 impl<'t> Environment<'t> {
     pub fn new(heap: Global) -> Environment<'t> {
         Environment {
-            variables: Named::new(heap),
-            functions: Named::new(heap),
+            variables: BTreeMap::new(heap),
+            functions: BTreeMap::new(heap),
             arguments: VecDeque::new(heap),
             status: SUCCESS,
         }
     }
 
     pub fn set(&mut self, heap: Global, name: &[u8], value: Vec<u8>) -> Result<(), AllocError> {
-        self.variables.set(heap, name, value)
+        self.variables.insert(name.to_vec(heap)?, value)?;
+        Ok(())
     }
 
     pub fn define(
@@ -39,7 +39,8 @@ impl<'t> Environment<'t> {
         name: &[u8],
         body: &'t [Item],
     ) -> Result<(), AllocError> {
-        self.functions.set(heap, name, body)
+        self.functions.insert(name.to_vec(heap)?, body)?;
+        Ok(())
     }
 
     /// The body of a function, the newest of its name.

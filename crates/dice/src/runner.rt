@@ -68,8 +68,8 @@ impl<'t> Runner<'t> {
     ) -> Result<Pid, AllocError> {
         let pid = Pid(self.next_pid);
         let process = Process::new(self.system.heap, pid, control, streams, environment);
-        let process = Box::new(self.system.heap, process)?;
-        self.processes.push(Some(process))?;
+        self.processes
+            .push(Some(Box::new(self.system.heap, process)?))?;
         self.next_pid = self.next_pid.saturating_add(1);
         Ok(pid)
     }
