@@ -1,5 +1,5 @@
 //! Chains of cells: the first word of each is the address of the next, or 0.
-ghost use Rattle.std.specs.Prelude.{◌≡◌, ◌+◌, length, []};
+ghost use Rattle.std.specs.Prelude.{◌≡◌, ◌+◌, true, length, []};
 ghost use Rattle.std.specs.Iterator.{item_count};
 ghost use Rattle.code.specs.Chains.{chain_of, ends, ends_at, Follows, links_of};
 
@@ -24,10 +24,11 @@ impl<'a> Chain<'a> {
         }
     }
 
-    /// Whether the chain, whose cells have all been given, came to its end. One that goes round is left before it comes to any.
+    /// Whether all cells have been given, and the chain came to its end behind them. One that goes round is left before it comes to any.
     #[inline]
     pub fn ended(&self) -> bool
-        ensures { links_of self.now ≡ [] → result ≡ ends self.now }
+        ensures over { links_of self.now ≡ [] → result ≡ ends self.now }
+        ensures left { result ≡ true → links_of self.now ≡ [] }
     {
         self.next == 0
     }

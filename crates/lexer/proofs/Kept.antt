@@ -1,7 +1,10 @@
 -- The words of a token.
-use Rattle.std.proofs.Common.{◌≡◌, ◌≢◌, ℕ, ◌+◌, ◌*◌, ◌<◌, ◌≤◌, true, false, T, List, [], length, get_or, sym, ap, ◌∙◌, subst, arith, rules, leb→le}
+use Rattle.std.proofs.Common.{◌≡◌, ◌≢◌, ℕ, ◌+◌, ◌*◌, ◌<◌, ◌≤◌, true, false, T, List, [], length, get_or, sym, refl, ap, ◌∙◌, subst, ⊎_elim, arith, rules, leb→le}
+use Rattle.std.proofs.Math.ListN.{drop_of_length-le}
+use Rattle.std.proofs.lemmas.Bool.{cases_lt}
 use Rattle.std.specs.Result.{result_ok}
 use Rattle.std.specs.declared.result.Result.{Result}
+use Rattle.std.specs.declared.result.Result.TheVariants.{Ok, Err}
 use Rattle.grammar.specs.Tokens.{Token, token}
 use Rattle.lexer.specs.declared.token.Token.{Token as Value}
 use Rattle.lexer.specs.declared.codes.UnknownCode.{UnknownCode}
@@ -9,14 +12,22 @@ use Rattle.lexer.specs.Codes.{code_of, next_code, has_bytes, Decodes}
 use Rattle.lexer.specs.Stored.{token_code, code_at, tokens_of, tokens_from, Has}
 use Rattle.lexer.proofs.Coding.{here_coded, decoded}
 use Rattle.lexer.proofs.WithBytes.{bytes_kind, big_kind}
-use Rattle.lexer.proofs.Lexing.{here, code_in}
-
--- a token that is kept as a word is read again
-pub read_back : {t : List ℕ} {n : ℕ} {m : List ℕ} (i : ℕ) → Has t n m → i < n → (r : Result Value UnknownCode) → Decodes (get_or m (3 * i + 3) 0) r → next_code (result_ok r) ≡ code_at (tokens_from t i)
-read_back {t} i h l r d = decoded (code_at (tokens_from t i)) r (subst (λ k. Decodes k r) (code_in i h l) d) (here_coded t i (omega (arith, h.count)))
+use Rattle.lexer.proofs.Lexing.{here}
 
 no_code : (x : Value) → code_of x ≢ 47
 no_code x = search rules
+
+-- behind the last token there is none
+none_behind : (r : Result Value UnknownCode) → Decodes 47 r → next_code (result_ok r) ≡ 47
+none_behind (Ok x) d = absurd (no_code x d)
+none_behind (Err e) d = refl
+
+-- what stands at a place is read again by its code
+pub read_back : {t : List ℕ} {n : ℕ} {m : List ℕ} (i : ℕ) → Has t n m → (r : Result Value UnknownCode) → Decodes (code_at (tokens_from t i)) r → next_code (result_ok r) ≡ code_at (tokens_from t i)
+read_back {t} {n} i h r d = ⊎_elim
+    (λ (l : i < n). decoded (code_at (tokens_from t i)) r d (here_coded t i (omega (arith, h.count))))
+    (λ (l : n ≤ i). let e : code_at (tokens_from t i) ≡ 47 = ap code_at (drop_of_length-le (tokens_of t) (omega (arith, h.count))) in none_behind r (subst (λ k. Decodes k r) e d) ∙ sym e)
+    (cases_lt i n)
 
 -- the words of the token i of a text
 module _ {t : List ℕ} {n : ℕ} {m : List ℕ} (h : Has t n m) (i : ℕ) (l : i < n) where

@@ -132,9 +132,9 @@ Fits unclosed = ⊤
 abbrev pub Decodes : ℕ → Result Token UnknownCode → Type 0
 Decodes c r = MatchResult r (λ x. code_of x ≡ c) (λ e. (e.0 ≡ c) × ((x : Token) → Fits x → code_of x ≢ c))
 
--- whether a code is that of a part that is joined to the token before it
-abbrev pub joined_code : ℕ → Bool
-joined_code k = nat_le 8 k && nat_le k 15
+-- whether a token with the code k is joined to the one before
+abbrev pub joins : ℕ → Bool
+joins k = nat_le 8 k && nat_le k 15
 
 abbrev pub is_joined : Token → Bool
 is_joined (part p joined) = joined

@@ -1,6 +1,6 @@
 //! The numbers that stand for tokens in the lent words.
 ghost use Rattle.std.specs.Prelude.{◌≡◌, ℕ, ◌≢◌, MatchOption};
-ghost use Rattle.lexer.specs.Codes.{Decodes, code_of, joined_code, part_code, sign_code_of};
+ghost use Rattle.lexer.specs.Codes.{Decodes, code_of, joins, part_code, sign_code_of};
 
 use crate::token::{Keyword, Sign, Token};
 use code::{PartKind, PartTag};
@@ -38,7 +38,7 @@ pub const END: u32 = 47;
 /// Whether a code is that of a part that is joined to the token before it.
 #[inline]
 pub fn is_joined(code: u32) -> bool
-    ensures { result ≡ joined_code code }
+    ensures { result ≡ joins code }
 {
     matches!(code, 8..=15)
 }

@@ -1,7 +1,7 @@
 //! The tokens of a text, read from the words that they are kept in.
 ghost use Rattle.std.specs.Prelude.{◌≡◌, ◌↔◌, IsTrue, ℕ, ◌+◌, ◌*◌, ◌<◌, ◌≤◌, false, [], length, slice_index_or};
 ghost use Rattle.grammar.specs.Tokens.{token};
-ghost use Rattle.lexer.specs.Codes.{code_of, joined_code, next_code};
+ghost use Rattle.lexer.specs.Codes.{code_of, joins, next_code};
 ghost use Rattle.lexer.specs.Stored.{Has, Spelled, code_at, tokens_from, tokens_of};
 
 use crate::codes::{END, is_joined};
@@ -63,9 +63,6 @@ impl Tokens<'_> {
     pub fn get(&self, at: usize) -> Option<Token>
         ensures { next_code result ≡ code_at (tokens_from self.now.text.now at) }
     {
-        if at >= self.count {
-            return None;
-        }
         Token::try_from(self.code(at)).ok()
     }
 
@@ -80,7 +77,7 @@ impl Tokens<'_> {
     /// Whether the token at a place is joined to the one before it.
     #[inline]
     pub fn is_joined(&self, at: usize) -> bool
-        ensures { result ≡ joined_code (code_at (tokens_from self.now.text.now at)) }
+        ensures { result ≡ joins (code_at (tokens_from self.now.text.now at)) }
     {
         is_joined(self.code(at))
     }

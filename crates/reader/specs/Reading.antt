@@ -10,6 +10,7 @@ use Rattle.grammar.specs.Grammar.{put_before}
 use Rattle.grammar.specs.Parser.{Parsed, level, parse_part, parse_more, parse_word, parse_words, parse_assignments, parse_redirects, parse_arms, parse_pipeline, parse_negatable, parse_and_or, Lookahead, la_end, la_odd, la_part, Entry, keyword_table, sign_table}
 use Rattle.code.specs.declared.tags.PartTag.{PartTag}
 use Rattle.code.specs.declared.tags.RedirectTag.{RedirectTag}
+pub use Rattle.lexer.specs.Codes.{joins}
 use Rattle.lexer.specs.Codes.{part_code, redirect_code}
 use Rattle.lexer.specs.Stored.{tokens_from}
 use Rattle.code.specs.Layout.{flag, PartAt, PartsAt, WordsAt, AssignmentsAt, RedirectsAt, CommandAt, ElseAt, ArmsAt, PipelineAt, AndOrAt, ListAt}
@@ -31,10 +32,6 @@ abbrev pub tag_stage : ℕ → List ℕ → ℕ
 tag_stage zero b = pick (has_wildcard b) 4 0
 tag_stage (suc zero) b = 0
 tag_stage (suc (suc k)) b = pick (positional b) 3 0
-
--- whether a token with the code k is joined to the one before
-abbrev pub joins : ℕ → Bool
-joins k = nat_le 8 k && nat_le k 15
 
 -- signs and the end are no words
 abbrev pub ends_words : ℕ → Bool

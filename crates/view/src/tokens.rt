@@ -56,16 +56,13 @@ fn spelling(token: Result<Token, UnknownCode>, text: &[u8], start: usize, len: u
     &text[from..to]
 }
 
-/// The place behind so many bytes more of the text.
+/// The place behind so many bytes more of the text; from `LAST` on it stays.
 fn go_on(text: &[u8], from: usize, to: usize, place: Place) -> Place {
-    let mut place = place;
-    for i in from..to.min(text.len()) {
-        if place.line >= LAST || place.column >= LAST {
-            break;
-        }
-        place = place.after(text[i]);
+    let to = to.min(text.len());
+    if from >= to || place.line >= LAST || place.column >= LAST {
+        return place;
     }
-    place
+    place.behind(&text[from..to])
 }
 
 /// The tokens of a text, of which there are n, with their places. Three words are each, from the word 3 on: code, start, length.

@@ -35,13 +35,13 @@ covers_and_or-loop-at-preserved t c = record {
 }
 
 pub covers_and_or-returns-clause-coded : goal.covers_and_or-returns-clause-coded
-covers_and_or-returns-clause-coded t c = λ x h d. and_or_end c.args.code.text.now c.args.code.words.now c.args.last c.args.left c.ended.result (links_of c.loop-at.earlier) x (c.ended.ensures c.in_default.ensures.steps.0.1 ∙ c.in_default.ensures.steps.1 ∙ c.loop-at.invariant.end) c.in_default.ensures.steps.0.0 h (c.loop-at.invariant.walk x h d)
+covers_and_or-returns-clause-coded t c = λ x h d. and_or_end c.args.code.text.now c.args.code.words.now c.args.last c.args.left c.ended.result (links_of c.loop-at.earlier) x (c.ended.ensures.over c.in_default.ensures.steps.0.1 ∙ c.in_default.ensures.steps.1 ∙ c.loop-at.invariant.end) c.in_default.ensures.steps.0.0 h (c.loop-at.invariant.walk x h d)
 
 pub covers_and_or-returns-clause-alone : goal.covers_and_or-returns-clause-alone
 covers_and_or-returns-clause-alone t c = λ e. ap (λ v. slice_index c.args.code.words.now v.pipeline) (sym c.and_or-before.ensures) ∙ c.covers_pipeline.ensures.alone c.if-not-covers_pipeline.false
 
 pub covers_and_or-returns-clause-end : goal.covers_and_or-returns-clause-end
-covers_and_or-returns-clause-end t c = λ e. sym (c.ended.ensures c.in_default.ensures.steps.0.1 ∙ c.in_default.ensures.steps.1 ∙ c.loop-at.invariant.end) ∙ e
+covers_and_or-returns-clause-end t c = λ e. sym (c.ended.ensures.over c.in_default.ensures.steps.0.1 ∙ c.in_default.ensures.steps.1 ∙ c.loop-at.invariant.end) ∙ e
 
 pub covers_command-returns-then-redirects-eq0 : goal.covers_command-returns-then-redirects-eq0
 covers_command-returns-then-redirects-eq0 t c = simple_yes c.args.code.text.now c.args.code.words.now c.args.at c.args.left c.in-Some.left (omega arith) c.in-Simple.assignments c.in-Simple.words c.in-Simple.redirects c.covers_words.result (subst (CommandIs c.args.code.text.now c.args.code.words.now c.args.at) c.in-Simple.is c.in-Some-command.ensures) c.if-redirects-eq0.true.0 c.if-redirects-eq0.true.1 c.covers_words.ensures
@@ -126,10 +126,10 @@ covers_commands-loop-at-preserved t c = record {
 }
 
 pub covers_commands-returns-clause-coded : goal.covers_commands-returns-clause-coded
-covers_commands-returns-clause-coded t c = λ x h d. list_end c.args.code.text.now c.args.code.words.now c.args.root c.args.left c.ended.result (links_of c.loop-at.items) x (c.ended.ensures c.in_default.ensures.steps.0.1 ∙ c.in_default.ensures.steps.1 ∙ c.loop-at.invariant.end) c.in_default.ensures.steps.0.0 h (c.loop-at.invariant.walk x h d)
+covers_commands-returns-clause-coded t c = λ x h d. list_end c.args.code.text.now c.args.code.words.now c.args.root c.args.left c.ended.result (links_of c.loop-at.items) x (c.ended.ensures.over c.in_default.ensures.steps.0.1 ∙ c.in_default.ensures.steps.1 ∙ c.loop-at.invariant.end) c.in_default.ensures.steps.0.0 h (c.loop-at.invariant.walk x h d)
 
 pub covers_commands-returns-clause-end : goal.covers_commands-returns-clause-end
-covers_commands-returns-clause-end t c = λ e. sym (c.ended.ensures c.in_default.ensures.steps.0.1 ∙ c.in_default.ensures.steps.1 ∙ c.loop-at.invariant.end) ∙ e
+covers_commands-returns-clause-end t c = λ e. sym (c.ended.ensures.over c.in_default.ensures.steps.0.1 ∙ c.in_default.ensures.steps.1 ∙ c.loop-at.invariant.end) ∙ e
 
 pub covers_else-returns-then-at-eq0 : goal.covers_else-returns-then-at-eq0
 covers_else-returns-then-at-eq0 t c = λ x h d. eq-eqb c.args.at 0 c.if-at-eq0.true ∙ else_none c.args.code.text.now c.args.code.words.now c.args.at c.args.left c.if-at-eq0.true x h d

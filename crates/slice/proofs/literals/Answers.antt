@@ -11,7 +11,7 @@ returns-then-all c =
     let a = all_from_yields_List (is_literal c.args.code.words.now) c.all.new.self _ c.all.result c.all.ensures.ran (walk_cells c.chain-cells.result (chain_of c.args.code.words.now c.args.parts) c.chain-cells.ensures.cells) (λ x b q k. search (rules, tests)) in
     let d = c.all.ensures.ran in
     let w = all_over _ d.0 d.1 c.all.result c.chain-cells.result c.all.new.self d.3 d.5 c.if-all.true in
-    c.ended.ensures w.0 ∙ w.1 ∙ c.chain-cells.ensures.end ∙ ap (λ b. b && ends_at c.args.code.words.now c.args.parts) (sym c.if-all.true ∙ a)
+    c.ended.ensures.over w.0 ∙ w.1 ∙ c.chain-cells.ensures.end ∙ ap (λ b. b && ends_at c.args.code.words.now c.args.parts) (sym c.if-all.true ∙ a)
 
 pub returns-else-all : goal.returns-else-all
 returns-else-all c =
