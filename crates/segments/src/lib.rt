@@ -6,7 +6,7 @@ ghost use Rattle.segments.specs.Layout.{field, filed, place, spread};
 ghost use Rattle.segments.specs.Table.{Segment, nth, segs, marks, Within, Free, written, moved, exchanged, opened, marked, Retired, Laid};
 
 use std::marker::Model;
-use words::{copy_words, put_wide, put_words, wide};
+use words::{copy_words, move_words, put_wide, put_words, wide};
 
 mod words;
 
@@ -234,7 +234,7 @@ impl Segments<'_> {
         let w = &mut *self.words;
         let at = read(w, i, Part::Start);
         let len = read(w, i, Part::Size);
-        copy_words(w, at, to, len);
+        move_words(w, at, to, len);
         write(w, i, Part::Start, to);
         write(w, i, Part::Room, room);
     }

@@ -30,6 +30,16 @@ pub fn copy_words(w: &mut [u32], at: usize, to: usize, len: usize)
     w.copy_within(at..at + len, to);
 }
 
+/// The same for a segment that goes to another place. That is seldom, so it is kept out of the loops in which words are pushed.
+#[cold]
+pub fn move_words(w: &mut [u32], at: usize, to: usize, len: usize)
+    requires to_in_bounds { to + len ≤ length w.old }
+    requires at_in_bounds { at + len ≤ length w.old }
+    ensures { Written w.old w.new to (take len (drop at w.old)) }
+{
+    copy_words(w, at, to, len);
+}
+
 /// The words of a slice go to `to`.
 pub fn put_words(w: &mut [u32], to: usize, xs: &[u32])
     requires { to + length xs.now ≤ length w.old }

@@ -59,25 +59,16 @@ fn filled(words: &mut [u32], last: usize, fill: u32) -> Option<Store<'_>>
     Some(st)
 }
 
-/// How many pushes of the rounds found room, and how many words were moved.
-#[derive(Drop)]
-struct Work {
-    pushed: u64,
-    moved: usize,
-}
-
-/// Pushes `pushes` words and cuts the lists to `size` words each, `rounds` times.
-fn push_rounds(mut st: Store, last: usize, size: usize, pushes: u32, rounds: u32) -> Work {
+/// Pushes `pushes` words and cuts the lists to `size` words each, `rounds` times; how many pushes found room.
+#[inline(always)]
+fn push_rounds(st: &mut Store, last: usize, size: usize, pushes: u32, rounds: u32) -> u64 {
     let mut pushed: u64 = 0;
     // A count, and no index.
     for _k in 0..rounds {
-        pushed = pushed.wrapping_add(u64::from(grow(&mut st, last, pushes)));
-        shrink(&mut st, last.saturating_add(1), size);
+        pushed = pushed.wrapping_add(u64::from(grow(st, last, pushes)));
+        shrink(st, last.saturating_add(1), size);
     }
-    Work {
-        pushed,
-        moved: st.moved(),
-    }
+    pushed
 }
 
 /// Makes lists 0 up to `last`, fills them, and touches them one after another; 0 in words too few for a store.
@@ -99,7 +90,7 @@ pub fn store_bench_rounds(
 ) -> u64
     ensures { length words.old < 64 → result ≡ 0 }
 {
-    filled(words, last, fill).map_or(0, |st| push_rounds(st, last, size, pushes, rounds).pushed)
+    filled(words, last, fill).map_or(0, |mut st| push_rounds(&mut st, last, size, pushes, rounds))
 }
 
 /// How many words the same moves.
@@ -113,5 +104,8 @@ pub fn store_bench_moved(
 ) -> usize
     ensures { length words.old < 64 → result ≡ 0 }
 {
-    filled(words, last, fill).map_or(0, |st| push_rounds(st, last, size, pushes, rounds).moved)
+    filled(words, last, fill).map_or(0, |mut st| {
+        let _ = push_rounds(&mut st, last, size, pushes, rounds);
+        st.moved()
+    })
 }

@@ -7,11 +7,17 @@ use store::{Refusal, Store};
 /// How many numbers are used.
 pub const LISTS: usize = 12;
 
+/// A list is empty while its number is not in use, and keeps its room for when it is.
+#[derive(Drop)]
+struct List {
+    used: bool,
+    words: Vec<u32>,
+}
+
 #[derive(Drop)]
 pub struct Mirror {
     heap: Global,
-    /// None at a number that is not in use.
-    lists: Vec<Option<Vec<u32>>>,
+    lists: Vec<List>,
     half: usize,
     seed: u64,
     /// Whether numbers are also taken in a row, and given back by the last in use.
@@ -26,7 +32,10 @@ impl Mirror {
     pub fn new(heap: Global, words: usize, seed: u64) -> Result<Self, AllocError> {
         let mut lists = Vec::new(heap);
         for _k in 0..LISTS {
-            lists.push(None)?;
+            lists.push(List {
+                used: false,
+                words: Vec::new(heap),
+            })?;
         }
         Ok(Mirror {
             heap,
@@ -77,8 +86,8 @@ impl Mirror {
     /// The words of list i, and none where it is not in use.
     fn list(&self, i: usize) -> &[u32] {
         match self.lists.get(i) {
-            Some(Some(list)) => list.as_slice(),
-            _ => &[],
+            Some(list) => list.words.as_slice(),
+            None => &[],
         }
     }
 
@@ -88,19 +97,19 @@ impl Mirror {
 
     fn total(&self) -> usize {
         let mut total: usize = 0;
-        for list in self.lists.iter().flatten() {
-            total = total.wrapping_add(list.len());
+        for list in self.lists.iter() {
+            total = total.wrapping_add(list.words.len());
         }
         total
     }
 
     fn alive(&self, i: usize) -> bool {
-        matches!(self.lists.get(i), Some(Some(_)))
+        self.lists.get(i).is_some_and(|list| list.used)
     }
 
     /// Behind the last number in use.
     fn extent(&self) -> usize {
-        match self.lists.iter().rposition(|list| list.is_some()) {
+        match self.lists.iter().rposition(|list| list.used) {
             Some(last) => last + 1,
             None => 0,
         }
@@ -146,8 +155,8 @@ impl Mirror {
         }
         self.done(got == want);
         if got.is_ok() {
-            if let Some(Some(list)) = self.lists.get_mut(i) {
-                list.extend_from_slice(more)?;
+            if let Some(list) = self.lists.get_mut(i) {
+                list.words.extend_from_slice(more)?;
             }
         }
         Ok(())
@@ -175,24 +184,24 @@ impl Mirror {
     pub fn pop(&mut self, st: &mut Store, i: usize) {
         let got = st.pop(i);
         let want = match self.lists.get_mut(i) {
-            Some(Some(list)) => list.pop(),
-            _ => None,
+            Some(list) => list.words.pop(),
+            None => None,
         };
         self.done(got == want);
     }
 
     pub fn truncate(&mut self, st: &mut Store, i: usize, m: usize) {
         st.truncate(i, m);
-        if let Some(Some(list)) = self.lists.get_mut(i) {
-            list.truncate(m);
+        if let Some(list) = self.lists.get_mut(i) {
+            list.words.truncate(m);
         }
         self.done(true);
     }
 
     pub fn set(&mut self, st: &mut Store, i: usize, j: usize, v: u32) {
         st.set(i, j, v);
-        if let Some(Some(list)) = self.lists.get_mut(i) {
-            if let Some(x) = list.get_mut(j) {
+        if let Some(list) = self.lists.get_mut(i) {
+            if let Some(x) = list.words.get_mut(j) {
                 *x = v;
             }
         }
@@ -210,9 +219,9 @@ impl Mirror {
 
     /// Number i comes into use, with an empty list, or goes out of it.
     fn mark(&mut self, i: usize, used: bool) {
-        let heap = self.heap;
         if let Some(list) = self.lists.get_mut(i) {
-            *list = used.then(|| Vec::new(heap));
+            list.used = used;
+            list.words.clear();
         }
     }
 

@@ -24,28 +24,28 @@ clear w n lo u t e f k h =
     let g = rw (← e) at f in
     rw (start_is w n k h, room_is w n k h) at (g k (omega (arith, count_is w n)))
 
-pub copy_words-requires : goal.copy_words-requires
-copy_words-requires c =
+pub move_words-requires : goal.move_words-requires
+move_words-requires c =
     let f = here c.self.inside.words.now c.self.inside.count c.args.self.now c.args.i c.self.invariant c.self.view_is c.requires.there in
     let b = bound c.self.inside.words.now c.self.inside.count _ _ c.self.view_is c.requires.in_bounds in
     record { to_in_bounds = omega (arith, c.read-len.ensures, c.requires.fits); at_in_bounds = omega (arith, c.read-at.ensures, c.read-len.ensures) }
 
 pub write-requires : goal.write-requires
-write-requires c = let f = here c.self.inside.words.now c.self.inside.count c.args.self.now c.args.i c.self.invariant c.self.view_is c.requires.there in omega (arith, c.copy_words.auto.w)
+write-requires c = let f = here c.self.inside.words.now c.self.inside.count c.args.self.now c.args.i c.self.invariant c.self.view_is c.requires.there in omega (arith, c.move_words.auto.w)
 
 pub write-requires-2 : goal.write-requires-2
-write-requires-2 c = let f = here c.self.inside.words.now c.self.inside.count c.args.self.now c.args.i c.self.invariant c.self.view_is c.requires.there in omega (arith, c.copy_words.auto.w, c.write.auto.w)
+write-requires-2 c = let f = here c.self.inside.words.now c.self.inside.count c.args.self.now c.args.i c.self.invariant c.self.view_is c.requires.there in omega (arith, c.move_words.auto.w, c.write.auto.w)
 
 gone : (c : After-write-2) → Moved c.self.inside.words.now c.write-2.new.w c.self.inside.count c.args.i c.args.to c.args.room
 gone c =
     let f = here c.self.inside.words.now c.self.inside.count c.args.self.now c.args.i c.self.invariant c.self.view_is c.requires.there in
     rw (c.write-2.ensures, c.write.ensures)
-    (moved_is c.self.inside.words.now c.copy_words.new.w c.self.inside.count c.args.i c.args.to c.args.room c.self.invariant f.lt (omega (arith, c.requires.fits))
+    (moved_is c.self.inside.words.now c.move_words.new.w c.self.inside.count c.args.i c.args.to c.args.room c.self.invariant f.lt (omega (arith, c.requires.fits))
     (behind c.self.inside.words.now c.self.inside.count _ _ c.self.view_is c.requires.behind_table) (bound c.self.inside.words.now c.self.inside.count _ _ c.self.view_is c.requires.in_bounds) (clear c.self.inside.words.now c.self.inside.count _ _ _ c.self.view_is c.requires.free)
-    (rw (c.read-len.ensures, c.read-at.ensures) at c.copy_words.ensures))
+    (rw (c.read-len.ensures, c.read-at.ensures) at c.move_words.ensures))
 
 pub invariant_of-self : goal.invariant_of-self
 invariant_of-self c = (gone c).good
 
 pub returns : goal.returns
-returns c = rw (← c.self.view_is) (record { laid = good_laid _ _ (gone c).good; after = moved_view c.self.inside.words.now _ c.self.inside.count c.args.i (omega (arith, c.write-2.auto.w, c.write.auto.w, c.copy_words.auto.w)) c.args.to c.args.room (gone c) })
+returns c = rw (← c.self.view_is) (record { laid = good_laid _ _ (gone c).good; after = moved_view c.self.inside.words.now _ c.self.inside.count c.args.i (omega (arith, c.write-2.auto.w, c.write.auto.w, c.move_words.auto.w)) c.args.to c.args.room (gone c) })
