@@ -30,35 +30,31 @@ pub struct NotReserved;
 impl<'t> TryFrom<&'t [u8]> for Keyword {
     type Error = NotReserved;
 
+    // Each word of a text is looked up, so not by a search through the spellings.
     fn try_from(word: &'t [u8]) -> Result<Keyword, NotReserved> {
-        Keyword::ALL
-            .iter()
-            .copied()
-            .find(|keyword| word == keyword.spelling().as_bytes())
-            .ok_or(NotReserved)
+        match word {
+            b"if" => Ok(Keyword::If),
+            b"then" => Ok(Keyword::Then),
+            b"elif" => Ok(Keyword::Elif),
+            b"else" => Ok(Keyword::Else),
+            b"fi" => Ok(Keyword::Fi),
+            b"while" => Ok(Keyword::While),
+            b"do" => Ok(Keyword::Do),
+            b"done" => Ok(Keyword::Done),
+            b"for" => Ok(Keyword::For),
+            b"in" => Ok(Keyword::In),
+            b"case" => Ok(Keyword::Case),
+            b"when" => Ok(Keyword::When),
+            b"esac" => Ok(Keyword::Esac),
+            b"{" => Ok(Keyword::OpenBrace),
+            b"}" => Ok(Keyword::CloseBrace),
+            b"!" => Ok(Keyword::Not),
+            _ => Err(NotReserved),
+        }
     }
 }
 
 impl Keyword {
-    const ALL: [Keyword; 16] = [
-        Keyword::If,
-        Keyword::Then,
-        Keyword::Elif,
-        Keyword::Else,
-        Keyword::Fi,
-        Keyword::While,
-        Keyword::Do,
-        Keyword::Done,
-        Keyword::For,
-        Keyword::In,
-        Keyword::Case,
-        Keyword::When,
-        Keyword::Esac,
-        Keyword::OpenBrace,
-        Keyword::CloseBrace,
-        Keyword::Not,
-    ];
-
     fn spelling(self) -> &'static str {
         match self {
             Keyword::If => "if",
