@@ -60,6 +60,7 @@ fn filled(words: &mut [u32], last: usize, fill: u32) -> Option<Store<'_>>
 }
 
 /// Pushes `pushes` words and cuts the lists to `size` words each, `rounds` times; how many pushes found room.
+// In each caller anew, so that the one that does not ask for the count keeps none.
 #[inline(always)]
 fn push_rounds(st: &mut Store, last: usize, size: usize, pushes: u32, rounds: u32) -> u64 {
     let mut pushed: u64 = 0;
