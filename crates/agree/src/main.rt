@@ -7,6 +7,8 @@ mod compare;
 mod counts;
 mod random;
 mod records;
+#[cfg(test)]
+mod tests;
 
 use crate::counts::Counts;
 use crate::random::Tally;

@@ -1,0 +1,2 @@
+-- Words of the contracts.
+pub mod Wildcards

@@ -1,5 +1,9 @@
 //! Whether a text is calm: whether every order of its moves that ends gives the same paper.
 
+ghost use Rattle.std.specs.Prelude.{◌≡◌};
+ghost use Rattle.std.specs.List.{list_any};
+ghost use Rattle.dice_tree.specs.Wildcards.{is_wildcard};
+
 // The walks are `for` loops, and apart from those of `stage`: see there.
 
 use crate::tree::{
@@ -7,8 +11,10 @@ use crate::tree::{
     WordPart,
 };
 
-/// * or ?
-pub(crate) fn has_wildcard(bytes: &[u8]) -> bool {
+/// Whether there is a * or a ? among the bytes.
+pub fn has_wildcard(bytes: &[u8]) -> bool
+    ensures { result ≡ list_any is_wildcard bytes.now }
+{
     bytes.iter().any(|c| matches!(c, b'*' | b'?'))
 }
 
