@@ -1,4 +1,4 @@
-//! Calls of the second runner's tree that no text of the data makes.
+//! What other crates ask of the second runner's tree, called by itself.
 
 use dice_tree::calm::has_wildcard;
 use std::test::Fail;
